@@ -1,0 +1,3 @@
+pub mod Grid
+pub mod Text
+pub mod Thirds

@@ -1,0 +1,2 @@
+// The cells of a direction, and the intervals that they are cut into.
+pub mod interval;

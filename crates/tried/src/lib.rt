@@ -1,0 +1,7 @@
+// Examples, run as tests.
+#[cfg(test)]
+mod answers;
+#[cfg(test)]
+mod intervals;
+#[cfg(test)]
+mod refusals;
