@@ -1,3 +1,4 @@
+pub mod Among
 pub mod Arranged
 pub mod Firsts
 pub mod Ranked

@@ -7,6 +7,8 @@ use lib.Dec.{ltb}
 use lib.IntN.{ℤ, pos, negℤ}
 use lib.Signed.{leZ, ltZ}
 use Rattle.std.specs.Written.{signed}
+use Rattle.std.specs.declared.option.Option.{Option}
+use Rattle.std.specs.declared.option.Option.the-variants.{Some, None}
 use Rattle.order.specs.declared.answer.Answer.{Answer}
 use Rattle.order.specs.declared.answer.Answer.the-variants.{Reading, NotFeasible}
 
@@ -23,6 +25,12 @@ abbrev pub answer-before : Answer → Answer → Bool
 answer-before (Reading a) (Reading b) = ltZ a b
 answer-before (Reading a) NotFeasible = true
 answer-before NotFeasible b = false
+
+-- answers by their order, and no answer after all of them
+abbrev pub entry-before : Option Answer → Option Answer → Bool
+entry-before (Some a) (Some b) = answer-before a b
+entry-before (Some a) None = true
+entry-before None b = false
 
 -- the earlier of two answers
 abbrev pub earlier-answer : Answer → Answer → Answer

@@ -6,6 +6,13 @@ ghost use Rattle.std.specs.Options.{Cases};
 ghost use Rattle.order.specs.First.{FirstOf, IsFirst};
 use crate::ordered::Ordered;
 
+// Whether a new record takes the place of the one that is held: only where it is before that.
+fn replaces<T: Ordered>(new: &T, held: &T) -> bool
+    ensures { λ r. ⌜ r ≡ before (key (now (new .entry))) (key (now (held .entry))) ⌝ }
+{
+    new.precedes(held)
+}
+
 // Where the first of some records stands, of equals the earliest place; none where there is no record.
 pub fn least<T: Ordered>(records: &[T]) -> Option<usize>
     ensures first { λ r. ⌜ Cases r (length (now (records .entry)) ≡ 0) (λ i. IsFirst (λ a b. before (key a) (key b)) (now (records .entry)) i) ⌝ }
@@ -16,7 +23,7 @@ pub fn least<T: Ordered>(records: &[T]) -> Option<usize>
     }
     let mut first = 0;
     for i in 1..records.len() {
-        if records[i].precedes(&records[first]) {
+        if replaces(&records[i], &records[first]) {
             first = i;
         }
     }

@@ -1,6 +1,7 @@
 // Boxes, directions and ranks, each by an answer and then by the lower number.
 ghost use mathlib.Core.Path.{_≡_};
-ghost use Rattle.order.specs.Answers.{Numbered, answer-before, earlier-answer, numbered-before};
+ghost use Rattle.order.specs.Answers.{Numbered, answer-before, earlier-answer, entry-before, numbered-before};
+ghost use Rattle.std.specs.declared.option.Option.{Option as Entry};
 ghost use Rattle.order.specs.Records.{candidate-key, direction-key, rank-key};
 ghost use Rattle.order.specs.declared.answer.Answer.{Answer as AnswerKey};
 use crate::answer::Answer;
@@ -51,6 +52,23 @@ pub impl Ordered for Answer as AnswerOrdered {
 
     fn precedes(&self, other: &Answer) -> bool {
         self.is_before(*other)
+    }
+}
+
+// Entries go by their answers, empty ones last; among equal answers `least` takes the earlier place.
+pub impl Ordered for Option<Answer> as EntryOrdered {
+    ghost Key = { Entry AnswerKey };
+
+    ghost key = { λ e. e };
+
+    ghost before = { entry-before };
+
+    fn precedes(&self, other: &Option<Answer>) -> bool {
+        match (*self, *other) {
+            (Some(a), Some(b)) => a.is_before(b),
+            (Some(_), None) => true,
+            (None, _) => false,
+        }
     }
 }
 

@@ -8,15 +8,15 @@ use Rattle.order.specs.First.{IsFirst}
 use Rattle.order.proofs.Firsts.{one-first}
 use Rattle.order.proofs.Ranked.{ranks}
 use Rattle.order.proofs.least.least.Needs as need
-use Rattle.order.proofs.least.least.Needs.{then-precedes, else-precedes}
+use Rattle.order.proofs.least.least.Needs.{then-replaces, else-replaces}
 
 pub loop-i-again : need.loop-i-again
 loop-i-again g c =
     let o = g .T·Ordered in let m = g .T·Ordered·met in
     let r = ranks (o .key) (o .before) (m .irreflexive) (m .transitive) (m .total) in
-    elim (c .if-precedes .came) [
-      | then-precedes w ↦ rw (w .first-is) (first-best-takes r _ _ _ _ _ (c .loop-i .inv) (c .loop-i-test .taken) (c .index-records-i .is) (c .index-records-first .is) (sym (c .precedes .ensures) ∙ w .if-precedes .taken))
-      | else-precedes w ↦ rw (w .first-is) (first-best-keeps r _ _ _ _ _ (c .loop-i .inv) (c .loop-i-test .taken) (c .index-records-i .is) (c .index-records-first .is) (sym (c .precedes .ensures) ∙ w .if-precedes .left))
+    elim (c .if-replaces .came) [
+      | then-replaces w ↦ rw (w .first-is) (first-best-takes r _ _ _ _ _ (c .loop-i .inv) (c .loop-i-test .taken) (c .index-records-i .is) (c .index-records-first .is) (sym (c .replaces .ensures) ∙ w .if-replaces .taken))
+      | else-replaces w ↦ rw (w .first-is) (first-best-keeps r _ _ _ _ _ (c .loop-i .inv) (c .loop-i-test .taken) (c .index-records-i .is) (c .index-records-first .is) (sym (c .replaces .ensures) ∙ w .if-replaces .left))
     ]
 
 pub returns : need.returns

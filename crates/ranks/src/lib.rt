@@ -1,0 +1,2 @@
+// Sets of ranks: membership, size, the lowest member, the m lowest.
+pub mod rank_set;
