@@ -4,4 +4,6 @@ mod answers;
 #[cfg(test)]
 mod intervals;
 #[cfg(test)]
+mod policies;
+#[cfg(test)]
 mod refusals;
