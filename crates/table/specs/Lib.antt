@@ -1,0 +1,5 @@
+pub mod Boxes
+pub mod Entries
+pub mod Fronts
+pub mod Rows
+pub mod Sums

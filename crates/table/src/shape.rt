@@ -1,0 +1,14 @@
+// How many directions a search has, and how fine its boxes may get.
+ghost use Prim.Native.Nat.{_≤_};
+
+pub mod make;
+
+#[derive(Clone, Copy)]
+pub struct Shape {
+    n: u8,
+    finest: u8,
+    ghost some: { 1 ≤ n },
+    ghost few: { n ≤ 6 },
+    ghost coarse: { 1 ≤ finest },
+    ghost fine: { finest ≤ 19 },
+}
