@@ -9,6 +9,7 @@ use Rattle.std.specs.declared.option.Option.the-variants.{Some}
 use Rattle.grid.specs.Grid.{IsInterval}
 use Rattle.order.specs.First.{FirstAmong}
 use Rattle.order.specs.Records.{candidate-before}
+use Rattle.order.specs.declared.answer.Answer.{Answer}
 use Rattle.order.specs.declared.records.Candidate.{Candidate}
 use Rattle.table.specs.Entries.{shown-by, waiting}
 use Rattle.table.specs.Rows.{first-of, level-of, rank, row-at}
@@ -51,3 +52,7 @@ pub record Offered (n finest boxes : ℕ) (table : List Row) (r : ℕ) (c : Cand
 -- the first box of rank r that can be cut, or none
 abbrev pub FirstOfRank : ℕ → ℕ → ℕ → List Row → ℕ → Option Candidate → Type 0
 FirstOfRank n finest boxes table r o = FirstAmong candidate-before (Offered n finest boxes table r) o
+
+-- row j is the first box of rank r that can be cut
+abbrev pub First : ℕ → ℕ → ℕ → List Row → ℕ → ℕ → Type 0
+First n finest boxes table r j = (a : Answer) × FirstOfRank n finest boxes table r (Some (record { answer = a; row = j }))

@@ -5,8 +5,8 @@ pub mod make;
 
 #[derive(Clone, Copy)]
 pub struct Shape {
-    n: u8,
-    finest: u8,
+    pub n: u8,
+    pub finest: u8,
     ghost some: { 1 ≤ n },
     ghost few: { n ≤ 6 },
     ghost coarse: { 1 ≤ finest },

@@ -1,0 +1,5 @@
+pub mod Calls
+pub mod Counts
+pub mod Once
+pub mod Points
+pub mod Runs
