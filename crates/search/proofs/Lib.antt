@@ -1,6 +1,7 @@
 pub mod Bests
 pub mod Chosen
 pub mod Clearing
+pub mod Fixed
 pub mod Levels
 pub mod Opens
 pub mod Places

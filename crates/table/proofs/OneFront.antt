@@ -23,7 +23,7 @@ use Rattle.table.specs.Boxes.{FirstOfRank}
 use Rattle.table.specs.Fronts.{EntryOf, FrontOf, ReadingsOf, answer-in}
 use Rattle.table.specs.declared.rows.Row.{Row}
 
-candidate-total : (a b : Candidate) → candidate-before a b ≡ false → candidate-before b a ≡ false → a ≡ b
+pub candidate-total : (a b : Candidate) → candidate-before a b ≡ false → candidate-before b a ≡ false → a ≡ b
 candidate-total a b p q =
     let same = numbered-total (candidate-key a) (candidate-key b) p q in
     λ i. record { answer = same i .answer; row = same i .number }

@@ -7,3 +7,5 @@ mod intervals;
 mod policies;
 #[cfg(test)]
 mod refusals;
+#[cfg(test)]
+mod tables;

@@ -1,4 +1,6 @@
 // Sets of ranks, fronts, and what the policies choose.
+use hull::hull::Hull;
+use hull::hull::choice::HullPolicy;
 use order::answer::Answer;
 use policy::cap::Cap;
 use policy::cap::choice::CapPolicy;
@@ -129,4 +131,35 @@ fn caps_out_of_range() -> Result<(), Fail> {
     };
     check_eq(why.number(), 13)?;
     check(Cap::new(114, Every {}).is_ok())
+}
+
+// What a hull of a share chooses.
+fn hull_of(share: u16, readings: &[i32], least: i32, greatest: i32) -> Option<RankSet> {
+    let front = line(readings, least, greatest)?;
+    match Hull::new(share) {
+        Ok(hull) => Some(hull.choose(&front)),
+        Err(_) => None,
+    }
+}
+
+#[test]
+fn hulls_without_a_margin() -> Result<(), Fail> {
+    check(hull_of(0, &[22, 10, 6], 6, 22) == Some(set(&[0, 1, 2])))?;
+    check(hull_of(0, &[22, 10, 5], 5, 22) == Some(set(&[0, 2])))
+}
+
+#[test]
+fn hulls_with_a_margin() -> Result<(), Fail> {
+    check(hull_of(1_000, &[12, 10], 10, 12) == Some(set(&[0, 1])))?;
+    check(hull_of(1_000, &[11, 10], 10, 11) == Some(set(&[0])))?;
+    check(hull_of(1_000, &[10, 10], 10, 10) == Some(set(&[0])))
+}
+
+#[test]
+fn shares_out_of_range() -> Result<(), Fail> {
+    check(Hull::new(10_000).is_ok())?;
+    let Err(why) = Hull::new(10_001) else {
+        return Err(Fail::new("a share of 10,001"));
+    };
+    check_eq(why, Refusal::ShareAboveLimit)
 }

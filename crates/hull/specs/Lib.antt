@@ -1,0 +1,4 @@
+pub mod Decide
+pub mod Optimal
+pub mod TakenRanks
+pub mod Values

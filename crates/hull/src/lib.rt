@@ -1,0 +1,2 @@
+// The policy that chooses the sizes that some slope makes potentially optimal.
+pub mod hull;
