@@ -21,7 +21,7 @@ use Rattle.table.specs.Rows.{no-row, row-at}
 use Rattle.table.specs.declared.rows.Row.{Row}
 use Rattle.search.specs.Calls.{BoxOf, OwnRest}
 use Rattle.search.specs.declared.states.Rest.{Rest}
-use Rattle.search.proofs.Chosen.{shows}
+use Rattle.search.proofs.Firsts.{shown-is}
 use Rattle.search.proofs.Slices.{rows, rows-at, rows-length}
 
 last : (a : Answer) → answer-before a NotFeasible ≡ false → a ≡ NotFeasible
@@ -55,7 +55,7 @@ module _ (rest : Rest) (table : List Row) (i : ℕ) (own : OwnRest rest table)
   after k h = let f = fits in sym (ap₂ answer-before (at i f) (at k (omega arith))) ∙ first .earliest k no-row h
 
   shown : (k : ℕ) → k < rest .boxes → shown-by (row-at table k .entry) ≡ Some (answer k)
-  shown k h = shows (row-at table k .entry) (own .each k h .answered)
+  shown k h = shown-is _ (own .each k h .answered)
 
   -- the answer of a box is the one by which it goes
   is-answer : (c : Candidate) → BoxOf rest table c → c .answer ≡ answer (c .row)

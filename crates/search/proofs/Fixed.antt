@@ -23,7 +23,7 @@ use Rattle.ranks.proofs.Sets.{same-words}
 use Rattle.ranks.specs.Ranks.{Ranks, ranks}
 use Rattle.refusal.specs.Checks.{Check, Gives, Refused}
 use Rattle.refusal.specs.declared.Refusal.{Refusal}
-use Rattle.refusal.specs.declared.Refusal.the-variants.{NoRoom}
+use Rattle.refusal.specs.declared.Refusal.the-variants.{AlreadyAnswered, Directions, FinestLevel, NoRoom, NoRow, NoSuchPoint, NotOwnTable, NothingToCut, ReadingOutOfRange}
 use Rattle.table.proofs.OneFront.{candidate-total, front-one}
 use Rattle.table.proofs.Sums.{less}
 use Rattle.table.specs.Rows.{no-row}
@@ -35,20 +35,19 @@ use Rattle.search.specs.Once.{One}
 use Rattle.search.specs.declared.states.Rest.{Rest}
 use Rattle.search.specs.declared.states.Round.{Round}
 
--- both checks come out the same way
-pub check-one : {G R K R′ K′ X : Type 0} → Check G R K → Check G R′ K′ → (R → R′ → X) → (K → K′ → X) → X
-check-one (inl a) (inl b) r k = r (a .1) (b .1)
-check-one (inl a) (inr b) r k = absurd (a .0 (b .0))
-check-one (inr a) (inl b) r k = absurd (b .0 (a .0))
-check-one (inr a) (inr b) r k = k (a .1) (b .1)
+-- a check leaves one outcome where what follows it does
+pub check-one : {X E M : Type 0} (good : Type 0) (lent : M) (e : E) (rest : Result X E → M → Type 0) → (good → One rest)
+    → One (λ (out : Result X E) (after : M). Check good (Refused lent after out e) (rest out after))
+check-one good lent e rest h out out′ after after′ (inl p) (inl q) = (p .1 .0 ∙ sym (q .1 .0), p .1 .1 ∙ sym (q .1 .1))
+check-one good lent e rest h out out′ after after′ (inl p) (inr q) = absurd (p .0 (q .0))
+check-one good lent e rest h out out′ after after′ (inr p) (inl q) = absurd (q .0 (p .0))
+check-one good lent e rest h out out′ after after′ (inr p) (inr q) = h (p .0) out out′ after after′ (p .1) (q .1)
 
-pub refused-one : {X E S : Type 0} {lent after after′ : S} {out out′ : Result X E} {e : E} → Refused lent after out e → Refused lent after′ out′ e → (out ≡ out′) × (after ≡ after′)
-refused-one p q = (p .0 ∙ sym (q .0), p .1 ∙ sym (q .1))
-
+-- a result that holds a value of which P holds is one where P holds of one value
 pub gives-one : {X E : Type 0} (P : X → Type 0) → ((x y : X) → P x → P y → x ≡ y) → (out out′ : Result X E) → Gives out P → Gives out′ P → out ≡ out′
-gives-one P one (Ok x) (Ok y) p q = ap Ok (one x y p q)
-gives-one P one (Ok x) (Err e) p q = absurd q
-gives-one P one (Err e) out p q = absurd p
+gives-one P h (Ok x) (Ok y) p q = ap Ok (h x y p q)
+gives-one P h (Ok x) (Err f) p q = absurd q
+gives-one P h (Err e) out′ p q = absurd p
 
 -- States
 
@@ -89,9 +88,9 @@ begun-one n finest a b x y =
     (x .one-box ∙ sym (y .one-box)) (x .no-round ∙ sym (y .no-round))
 
 pub begins-one : (n finest : ℕ) (table : List Row) (a : Answer) → One (Begins n finest table a)
-begins-one n finest table a out out′ after after′ x y =
-    check-one x y refused-one λ x y. check-one x y refused-one λ x y. check-one x y refused-one λ x y. check-one x y refused-one
-    λ x y. (gives-one (Begun n finest) (begun-one n finest) out out′ (x .0) (y .0), x .1 ∙ sym (y .1))
+begins-one n finest table a =
+    check-one _ table Directions _ (λ _. check-one _ table FinestLevel _ (λ _. check-one _ table NoRow _ (λ _. check-one _ table ReadingOutOfRange _
+    (λ _ out out′ after after′ x y. (gives-one (Begun n finest) (begun-one n finest) out out′ (x .0) (y .0), x .1 ∙ sym (y .1))))))
 
 -- Open
 
@@ -106,20 +105,29 @@ opened-one rest chosen a b x y =
     round-same a b (x .same-shape ∙ sym (y .same-shape)) (x .same-boxes ∙ sym (y .same-boxes)) (x .same-rounds ∙ sym (y .same-rounds))
     (same-words (a .chosen) (b .chosen) (x .is-chosen ∙ sym (y .is-chosen))) (x .is-points ∙ sym (y .is-points))
 
+-- opening at one front
+abbrev OpensAt : (Front → Ranks) → Rest → List Row → Front → Result Round (Refusal × Rest) → List Row → Type 0
+OpensAt meaning rest table front out after =
+    Check (Room rest table (points-of (rest .shape .n) (meaning front))) (Refused table after out (NoRoom, rest))
+    (Gives out (Opened rest (meaning front)) × Cleared (rest .boxes) (rest .boxes + points-of (rest .shape .n) (meaning front)) table after)
+
+opens-at-one : (meaning : Front → Ranks) (rest : Rest) (table : List Row) (front : Front) → One (OpensAt meaning rest table front)
+opens-at-one meaning rest table front =
+    check-one _ table (NoRoom, rest) _ (λ _ out out′ after after′ x y.
+    (gives-one (Opened rest (meaning front)) (opened-one rest (meaning front)) out out′ (x .0) (y .0), cleared-one _ _ table after after′ (x .1) (y .1)))
+
 pub opens-one : (meaning : Front → Ranks) (rest : Rest) (table : List Row) → One (Opens meaning rest table)
-opens-one meaning rest table out out′ after after′ x y =
-    check-one x y refused-one λ x y. check-one x y refused-one λ x y.
-    check-one (x .2) (subst (λ f. Check (Room rest table (points-of (rest .shape .n) (meaning f))) (Refused table after′ out′ (NoRoom, rest))
-    (Gives out′ (Opened rest (meaning f)) × Cleared (rest .boxes) (rest .boxes + points-of (rest .shape .n) (meaning f)) table after′))
-    (front-one (rest .shape .n) (rest .shape .finest) (rest .boxes) table (y .0) (x .0) (y .1) (x .1)) (y .2)) refused-one
-    λ p q. (gives-one (Opened rest (meaning (x .0))) (opened-one rest (meaning (x .0))) out out′ (p .0) (q .0), cleared-one _ _ table after after′ (p .1) (q .1))
+opens-one meaning rest table =
+    check-one _ table (NotOwnTable, rest) _ (λ _. check-one _ table (NothingToCut, rest) _ (λ _ out out′ after after′ x y.
+    opens-at-one meaning rest table (x .0) out out′ after after′ (x .2)
+    (subst (λ f. OpensAt meaning rest table f out′ after′) (front-one (rest .shape .n) (rest .shape .finest) (rest .boxes) table (y .0) (x .0) (y .1) (x .1)) (y .2))))
 
 -- Answer
 
 pub answers-one : (round : Round) (table : List Row) (p : ℕ) (a : Answer) → One (Answers round table p a)
-answers-one round table p a out out′ after after′ x y =
-    check-one x y refused-one λ x y. check-one x y refused-one λ x y. check-one x y refused-one λ x y. check-one x y refused-one
-    λ x y. (x .0 ∙ sym (y .0), x .1 ∙ sym (y .1))
+answers-one round table p a =
+    check-one _ table ReadingOutOfRange _ (λ _. check-one _ table NotOwnTable _ (λ _. check-one _ table NoSuchPoint _ (λ _. check-one _ table AlreadyAnswered _
+    (λ _ out out′ after after′ x y. (x .0 ∙ sym (y .0), x .1 ∙ sym (y .1))))))
 
 -- Best
 
@@ -138,5 +146,7 @@ best-one rest table (Some a) (Some b) x y =
     λ i. Some (same .0 i, same .1 i)
 
 pub bests-one : (rest : Rest) (table : List Row) (out out′ : Result (Option (ℕ × ℤ)) Refusal) → Bests rest table out → Bests rest table out′ → out ≡ out′
-bests-one rest table out out′ x y =
-    check-one x y (λ p q. p ∙ sym q) (gives-one (BestOf rest table) (best-one rest table) out out′)
+bests-one rest table out out′ (inl x) (inl y) = x .1 ∙ sym (y .1)
+bests-one rest table out out′ (inl x) (inr y) = absurd (x .0 (y .0))
+bests-one rest table out out′ (inr x) (inl y) = absurd (y .0 (x .0))
+bests-one rest table out out′ (inr x) (inr y) = gives-one (BestOf rest table) (best-one rest table) out out′ (x .1) (y .1)

@@ -1,26 +1,30 @@
--- The levels of a box that differ by at most one.
-use mathlib.Core.Path.{_≡_, refl, sym, _∙_, ap, subst}
+-- The levels of a box, its long sides, and the ranks of the rows that closing makes of it.
+use mathlib.Core.Path.{_≡_, _∙_, subst}
 use mathlib.Core.Logic.{_≢_, _⊎_, inl, inr}
-use mathlib.Core.Bool.{Bool, true, false, cond, _&&_}
-use Prim.Native.Nat.{ℕ, zero, suc, _+_, _-_, _*_, _/_, _%_, _^_, _<_, _≤_}
-use native.Mathlib.Nat.{mul-comm, mul-add, mul-one, suc-mul, add-mul, one-mul, mod-lt, div-add-mod', mul-le-mul-left}
+use mathlib.Core.Bool.{Bool, _&&_}
+use Prim.Native.Nat.{ℕ, _+_, _-_, _*_, _/_, _%_, _<_, _≤_}
+use native.Mathlib.Nat.{mul-comm, mul-add, mul-one, mod-lt, div-add-mod'}
 use native.Mathlib.Omega.{arith}
 use lib.Dec.{T, eqb, eqb→eq, eqb-refl}
+use Rattle.table.specs.Boxes.{InDirection, Long}
+use Rattle.table.specs.Rows.{level-of, rank}
+use Rattle.table.specs.Sums.{bit, sum}
 use Rattle.table.specs.declared.rows.Row.{Row}
-use Rattle.table.specs.Rows.{rank, level-of}
-use Rattle.table.specs.Sums.{sum}
-use Rattle.table.specs.Boxes.{Long}
-use Rattle.search.specs.Points.{is-long, IsThird, Same, Kept, Given, Side}
-use Rattle.table.specs.Sums.{bit}
-use Rattle.table.proofs.Sums.{test, yes-is, no-is, bit-yes, bit-no, both, both-left, both-right, same, less, sum-cong, sum-add, sum-const, sum-at, sum-over, sum-short}
+use Rattle.table.proofs.Sums.{bit-no, bit-yes, both, both-left, both-right, less, same, sum-add, sum-at, sum-cong, sum-const, sum-over, sum-short, test}
+use Rattle.search.specs.Points.{Given, Kept, Side, is-long}
 
+-- the levels of a row differ by at most one
 pub record Near (n : ℕ) (row : Row) : Type 0 where
   pub near : (d e : ℕ) → d < n → e < n → level-of row d ≤ level-of row e + 1
+
+pub near-own : (n finest : ℕ) (row : Row) → n ≤ 6 → ((d : ℕ) → d < 6 → InDirection n finest row d) → Near n row
+near-own n finest row six h = record { near = λ d e x y. h d (omega arith) .near x e y }
 
 module _ (n : ℕ) (row : Row) (some : 1 ≤ n) where
   parts-of-rank : rank n row / n * n + rank n row % n ≡ rank n row
   parts-of-rank = div-add-mod' (rank n row) n
 
+  -- each level is that of the box or the next
   pub level-is : Near n row → (d : ℕ) → d < n → (level-of row d ≡ rank n row / n) ⊎ (level-of row d ≡ rank n row / n + 1)
   level-is h d l =
       let t : ℕ = rank n row / n in
@@ -34,6 +38,7 @@ module _ (n : ℕ) (row : Row) (some : 1 ≤ n) where
         ]
       ]
 
+  -- a side is long or not
   pub long? : (d : ℕ) → d < n → Long n row d ⊎ (Long n row d → ⊥)
   long? d l =
       elim (same (level-of row d) (rank n row / n))
@@ -46,7 +51,7 @@ module _ (n : ℕ) (row : Row) (some : 1 ≤ n) where
   long-is d l h = record { direction = l; level = eqb→eq (level-of row d) (rank n row / n) h }
 
   -- a side that is not long has the next level
-  pub short-level : Near n row → (d : ℕ) → d < n → (Long n row d → ⊥) → level-of row d ≡ rank n row / n + 1
+  short-level : Near n row → (d : ℕ) → d < n → (Long n row d → ⊥) → level-of row d ≡ rank n row / n + 1
   short-level h d l x =
       elim (level-is h d l) [ inl e ↦ absurd (x (record { direction = l; level = e })) | inr e ↦ e ]
 
@@ -82,9 +87,6 @@ module _ (n : ℕ) (old new : Row) (some : 1 ≤ n) (six : n ≤ 6) (h : Near n 
   pub kept-rank : Kept n old new → rank n new ≡ (rank n old / n + 1) * n
   kept-rank k = sum-cong n (level-of new) (λ _. rank n old / n + 1) (kept-level k) ∙ sum-const n (rank n old / n + 1) ∙ mul-comm n (rank n old / n + 1)
 
-  pub kept-near : Kept n old new → Near n new
-  kept-near k = record { near = λ d e a b. omega (arith, kept-level k d a, kept-level k e b) }
-
   module _ (d : ℕ) (s : Side) (first : ℕ → Bool) (l : Long n old d) (g : Given n old new d s first) where
     given-level : (e : ℕ) → e < n → e ≢ d → level-of new e ≡ level-of old e + bit (is-long n old e && first e)
     given-level e k x =
@@ -110,19 +112,3 @@ module _ (n : ℕ) (old new : Row) (some : 1 ≤ n) (six : n ≤ 6) (h : Near n 
           g .own .level,
           bit-no (is-long n old d && first d) (λ t. not-d (both-right (is-long n old d) (first d) t)),
         )
-
-    given-between : (e : ℕ) → e < n → (rank n old / n ≤ level-of new e) × (level-of new e ≤ rank n old / n + 1)
-    given-between e k =
-        elim (same e d) [
-          | inl x ↦ (omega (arith, ap (level-of new) x, g .own .level, l .level), omega (arith, ap (level-of new) x, g .own .level, l .level))
-          | inr x ↦ elim (test (is-long n old e && first e)) [
-            | inl t ↦ let y = long-is n old some e k (both-left (is-long n old e) (first e) t) in
-                let z = g .cut e y x (both-right (is-long n old e) (first e) t) .level in
-                (omega (arith, z, y .level), omega (arith, z, y .level))
-            | inr t ↦ let z = g .rest e (omega arith) x (λ y z. t (both (is-long n old e) (first e) (long-yes n old some e y) z)) .level in
-                elim (level-is n old some h e k) [ inl y ↦ (omega (arith, z, y), omega (arith, z, y)) | inr y ↦ (omega (arith, z, y), omega (arith, z, y)) ]
-          ]
-        ]
-
-    pub given-near : Near n new
-    given-near = record { near = λ a b x y. omega (arith, given-between a x .1, given-between b y .0) }

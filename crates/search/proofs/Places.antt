@@ -1,98 +1,139 @@
--- A point's rank, long side and cell.
-use mathlib.Core.Path.{_≡_, refl, sym, ap, subst, _∙_}
-use mathlib.Core.Bool.{Bool, true, false}
+-- The numbers of a round's points: each is below their count, and each number below the count is that of one long side.
+use mathlib.Core.Path.{_≡_, sym, _∙_, ap, subst}
+use mathlib.Core.Logic.{_⊎_, inl, inr}
+use mathlib.Core.Bool.{Bool, cond}
 use mathlib.Core.List.{List}
-use Prim.Native.Nat.{ℕ, _+_, _-_, _*_, _/_, _%_, _<_, _≤_}
-use native.Mathlib.Nat.{div-lt-iff-lt-mul, mul-comm}
-use native.Mathlib.Numerals.{add-one}
+use Prim.Native.Nat.{ℕ, zero, suc, _+_, _-_, _*_, _/_, _%_, _<_, _≤_}
 use native.Mathlib.Omega.{arith}
-use lib.Dec.{T, eqb, eqb→eq}
-use lib.ListN.{length, getD}
-use Rattle.std.proofs.shelf.Tests.{eq-eqb, ne-eqb, true≢false}
-use Rattle.std.specs.Options.{isSome}
-use Rattle.std.specs.declared.option.Option.{Option}
-use Rattle.std.specs.declared.option.Option.the-variants.{None, Some}
-use Rattle.order.specs.declared.records.Candidate.{Candidate}
-use Rattle.ranks.specs.Ranks.{ranks}
-use Rattle.table.specs.Boxes.{First, FirstOfRank, IsBox, Long, OfRank, Own}
-use Rattle.table.specs.Rows.{level-of, rank, row-at}
-use Rattle.table.specs.Sums.{bit, sum}
+use lib.Dec.{T}
+use Rattle.ranks.specs.Ranks.{Ranks, ranks}
+use Rattle.ranks.proofs.Sets.{member-bound}
+use Rattle.table.specs.Boxes.{First, Long}
+use Rattle.table.specs.Rows.{rank, row-at}
+use Rattle.table.specs.Sums.{bit}
 use Rattle.table.specs.declared.rows.Row.{Row}
-use Rattle.search.specs.Calls.{LocatedIn}
-use Rattle.search.specs.Counts.{points-below}
-use Rattle.search.specs.Points.{Coordinate, is-long, point-at, side-for}
+use Rattle.table.proofs.Chains.{size}
+use Rattle.table.proofs.Sums.{bit-no, bit-yes, less, no-is, same, sum-fits, test, yes-is}
+use Rattle.search.specs.Calls.{OwnRound}
+use Rattle.search.specs.Counts.{points-below, points-of}
+use Rattle.search.specs.Points.{IsPoint, Side, Taken, high, is-long, low, point-at}
 use Rattle.search.specs.declared.states.Round.{Round}
-use Rattle.search.proofs.Chosen.{box-first}
-use Rattle.search.proofs.Levels.{Near, longs}
+use Rattle.search.proofs.Firsts.{first-unique, some-first}
+use Rattle.search.proofs.Levels.{Near, long-is, long-yes, longs, near-own}
 
--- the levels of a box are near each other
-pub near-own : (n finest : ℕ) (row : Row) → n ≤ 6 → IsBox n finest row → Near n row
-near-own n finest row six box = record { near = λ d e l k. box .directions d (omega arith) .near l e k }
+pub chosen-bound : (round : Round) (r : ℕ) → T (ranks (round .chosen) r) → r < 114
+chosen-bound round r t = member-bound (round .chosen) r (yes-is _ t)
 
--- the long sides below d
-abbrev pub longs-below : ℕ → Row → ℕ → ℕ
-longs-below n row d = sum d (λ e. bit (is-long n row e))
+-- the points of the chosen rank r end before those of higher ranks
+points-fit : (n : ℕ) (p : Ranks) (r top : ℕ) → T (p r) → r < top → points-below n p r + 2 * (n - r % n) ≤ points-below n p top
+points-fit n p r top t l =
+    omega (
+      arith,
+      sum-fits top (λ q. cond (p q) (2 * (n - q % n)) 0) r l,
+      ap (λ (x : Bool). cond x (2 * (n - r % n)) 0) (yes-is (p r) t),
+    )
 
-one-more : (n : ℕ) (row : Row) (d : ℕ) → longs-below n row (d + 1) ≡ longs-below n row d + bit (is-long n row d)
-one-more n row d = ap (longs-below n row) (add-one d)
+-- the rank to which a point belongs, and its number among the points of the rank
+rank-of : (n : ℕ) (p : Ranks) (top m : ℕ) → m < points-below n p top
+    → (r : ℕ) × (r < top) × T (p r) × ((k : ℕ) × (k < 2 * (n - r % n)) × (m ≡ points-below n p r + k))
+rank-of n p zero m l = absurd (omega arith)
+rank-of n p (suc top) m l =
+    elim (less m (points-below n p top)) [
+      | inl a ↦ let f = rank-of n p top m a in (f .0, omega (arith, f .1), f .2, f .3)
+      | inr a ↦ elim (test (p top)) [
+        | inl t ↦ (
+          top,
+          omega arith,
+          t,
+          (m - points-below n p top, omega (arith, ap (λ (x : Bool). cond x (2 * (n - top % n)) 0) (yes-is (p top) t)), omega arith),
+        )
+        | inr t ↦ absurd (omega (arith, ap (λ (x : Bool). cond x (2 * (n - top % n)) 0) (no-is (p top) t)))
+      ]
+    ]
 
-pub longs-in : (n : ℕ) (row : Row) (d x level : ℕ) → level-of row d ≡ level → level ≡ rank n row / n → x ≡ longs-below n row d → x + 1 ≡ longs-below n row (d + 1)
-longs-in n row d x level e is h = omega (arith, one-more n row d, ap bit (eq-eqb (level-of row d) (rank n row / n) (e ∙ is)))
+-- the member of a set with m members below it
+member-of : (n : ℕ) (L : ℕ → Bool) (m : ℕ) → m < size n L → (d : ℕ) × (d < n) × T (L d) × (size d L ≡ m)
+member-of zero L m l = absurd (omega arith)
+member-of (suc n) L m l =
+    elim (less m (size n L)) [
+      | inl a ↦ let f = member-of n L m a in (f .0, omega (arith, f .1), f .2, f .3)
+      | inr a ↦ elim (test (L n)) [
+        | inl t ↦ (n, omega arith, t, omega (arith, bit-yes (L n) t))
+        | inr t ↦ absurd (omega (arith, bit-no (L n) t))
+      ]
+    ]
 
-pub longs-out : (n : ℕ) (row : Row) (d x level : ℕ) → (level-of row d ≡ level → ⊥) → level ≡ rank n row / n → x ≡ longs-below n row d → x ≡ longs-below n row (d + 1)
-longs-out n row d x level ne is h = omega (arith, one-more n row d, ap bit (ne-eqb (level-of row d) (rank n row / n) (λ e. ne (e ∙ sym is))))
+module _ (round : Round) (table : List Row) (own : OwnRound round table) where
+  abbrev n : ℕ
+  n = round .shape .n
 
--- a chosen rank of an own table has a first box
-pub no-first : (n finest boxes : ℕ) (table : List Row) (r : ℕ) (o : Option Candidate) → Own n finest boxes table → FirstOfRank n finest boxes table r o → (j : ℕ) × OfRank n finest boxes table r j → o ≡ None → ⊥
-no-first n finest boxes table r o own f b e = true≢false (sym (ap isSome (sym e) ∙ box-first n finest boxes table r own o f b))
+  pub near-row : (j : ℕ) → j < round .boxes → Near n (row-at table j)
+  near-row j l = near-own n (round .shape .finest) (row-at table j) (round .shape .few) (own .own .each j l .directions)
 
--- the box that a first candidate stands for
-pub at-first : (n finest boxes : ℕ) (table : List Row) (r : ℕ) (o : Option Candidate) (c : Candidate) → FirstOfRank n finest boxes table r o → o ≡ Some c → First n finest boxes table r (c .row)
-at-first n finest boxes table r o c f e = (c .answer, subst (FirstOfRank n finest boxes table r) e f)
+  -- each chosen rank has a taken box
+  pub box-taken : (r : ℕ) → T (ranks (round .chosen) r) → (j : ℕ) × Taken round table r j
+  box-taken r t =
+      let box = own .boxes r t in
+      let f = some-first n (round .shape .finest) (round .boxes) table r (own .own) (box .0) (box .1) in
+      (f .0, record { in-set = t; first = f .1 })
 
--- a long side of a box that can be cut has a level below 19
-pub coarse-side : (n finest boxes : ℕ) (table : List Row) (r j d : ℕ) → 1 ≤ n → finest ≤ 19 → First n finest boxes table r j → Long n (row-at table j) d → level-of (row-at table j) d < 19
-coarse-side n finest boxes table r j d some fine f long =
-    let box = f .1 .0 .box in
-    let low : r / n < finest = div-lt-iff-lt-mul {k = n} {x = r} {y = finest} some .1 (omega (arith, box .unfinished, mul-comm n finest)) in
-    omega (arith, low, long .level, ap (λ (x : ℕ). x / n) (box .ranked))
+  -- a box is taken, for its rank, or is not
+  pub taken? : (j : ℕ) → ((r : ℕ) × Taken round table r j) ⊎ ((r : ℕ) → Taken round table r j → ⊥)
+  taken? j =
+      let r : ℕ = rank n (row-at table j) in
+      elim (test (ranks (round .chosen) r)) [
+        | inl t ↦
+            let box = box-taken r t in
+            elim (same (box .0) j) [
+              | inl e ↦ inl (r, subst (Taken round table r) e (box .1))
+              | inr x ↦ inr (λ q y. x (first-unique n (round .shape .finest) (round .boxes) table r (box .0) j (box .1 .first)
+                  (subst (λ z. First n (round .shape .finest) (round .boxes) table z j) (sym (y .first .1 .0 .box .ranked)) (y .first))))
+            ]
+        | inr t ↦ inr (λ q y. t (subst (λ z. T (ranks (round .chosen) z)) (sym (y .first .1 .0 .box .ranked)) (y .in-set)))
+      ]
 
-pub side-number : (n finest boxes : ℕ) (table : List Row) (r j number : ℕ) → 1 ≤ n → n ≤ 6 → Own n finest boxes table → First n finest boxes table r j → number < 2 * (n - r % n) → number / 2 < longs-below n (row-at table j) n
-side-number n finest boxes table r j number some six own f l =
-    omega (arith, longs n (row-at table j) some (near-own n finest (row-at table j) six (own .each j (f .1 .0 .box .within))), ap (λ (x : ℕ). x % n) (f .1 .0 .box .ranked))
+  -- the box taken for a rank has a long side for each two points of the rank
+  pub long-sides : (r j : ℕ) → Taken round table r j → size n (is-long n (row-at table j)) ≡ n - r % n
+  long-sides r j t =
+      let box = t .first .1 .0 .box in
+      longs n (row-at table j) (round .shape .some) (near-row j (box .within)) ∙ ap (λ (x : ℕ). n - x % n) (box .ranked)
 
-module _ (round : Round) (table : List Row) (p r j number d : ℕ) where
-  half : (b : Bool) → eqb (number % 2) 1 ≡ b → p ≡ points-below (round .shape .n) (ranks (round .chosen)) r + number → number / 2 ≡ longs-below (round .shape .n) (row-at table j) d
-      → p ≡ point-at round r (row-at table j) d (side-for b)
-  half true e is h = let o : number % 2 ≡ 1 = eqb→eq (number % 2) 1 (subst T (sym e) tt) in omega arith
-  half false e is h =
-      let z : number % 2 ≡ 1 → ⊥ = λ x. subst T (sym (eq-eqb (number % 2) 1 x) ∙ e) tt in
-      omega arith
+  module _ (top : ℕ) where
+    pub number-below : (r j d : ℕ) (s : Side) → Taken round table r j → r < top → Long n (row-at table j) d
+        → point-at round r (row-at table j) d s < points-below n (ranks (round .chosen)) top
+    number-below r j d s t b l = side s
+      where
+        many : size d (is-long n (row-at table j)) + 1 ≤ n - r % n
+        many = omega (
+          arith,
+          sum-fits n (λ e. bit (is-long n (row-at table j) e)) d (l .direction),
+          bit-yes (is-long n (row-at table j) d) (long-yes n (row-at table j) (round .shape .some) d l),
+          long-sides r j t,
+        )
 
-  pub number-is : p ≡ points-below (round .shape .n) (ranks (round .chosen)) r + number → number / 2 ≡ longs-below (round .shape .n) (row-at table j) d
-      → p ≡ point-at round r (row-at table j) d (side-for (eqb (number % 2) 1))
-  number-is = half (eqb (number % 2) 1) refl
+        side : (s : Side) → point-at round r (row-at table j) d s < points-below n (ranks (round .chosen)) top
+        side low = omega (arith, points-fit n (ranks (round .chosen)) r top (t .in-set) b, many)
+        side high = omega (arith, points-fit n (ranks (round .chosen)) r top (t .in-set) b, many)
 
-pub located-in : (round : Round) (table : List Row) (p r j number d : ℕ) (list after : List ℕ)
-    → T (ranks (round .chosen) r) → First (round .shape .n) (round .shape .finest) (round .boxes) table r j
-    → p ≡ points-below (round .shape .n) (ranks (round .chosen)) r + number
-    → Long (round .shape .n) (row-at table j) d → number / 2 ≡ longs-below (round .shape .n) (row-at table j) d
-    → ((e : ℕ) → e < round .shape .n → Coordinate (row-at table j) d (side-for (eqb (number % 2) 1)) e (getD after e 0))
-    → length after ≡ length list → ((e : ℕ) → round .shape .n ≤ e → getD after e 0 ≡ getD list e 0)
-    → LocatedIn round table p list after
-located-in round table p r j number d list after chosen first is long half cell same rest = record {
-  cell = record {
-    row = j;
-    of = r;
-    direction = d;
-    side = side-for (eqb (number % 2) 1);
-    point = record {
-      taken = record { in-set = chosen; first = first };
-      long = long;
-      number = number-is round table p r j number d is half;
-    };
-    cell = record { moved = cell d (long .direction) .moved refl; others = λ e l x. cell e l .middle x };
-  };
-  same-length = same;
-  nothing-after = rest;
-}
+    side-of-point : (p : ℕ) → p < points-below n (ranks (round .chosen)) top → (r : ℕ) × (j : ℕ) × (d : ℕ) × (s : Side) × IsPoint round table p r j d s
+    side-of-point p l =
+        let f = rank-of n (ranks (round .chosen)) top p l in
+        let r : ℕ = f .0 in
+        let k : ℕ = f .3 .0 in
+        let box = box-taken r (f .2) in
+        let j : ℕ = box .0 in
+        let g = member-of n (is-long n (row-at table j)) (k / 2) (omega (arith, f .3 .1, long-sides r j (box .1))) in
+        let long : Long n (row-at table j) (g .0) = long-is n (row-at table j) (round .shape .some) (g .0) (g .1) (g .2) in
+        elim (same (k % 2) 0) [
+          | inl e ↦ (r, j, g .0, low, record { taken = box .1; long = long; number = omega (arith, f .3 .2, g .3) })
+          | inr e ↦ (r, j, g .0, high, record { taken = box .1; long = long; number = omega (arith, f .3 .2, g .3) })
+        ]
+
+  pub point-bound : (r j d : ℕ) (s : Side) → Taken round table r j → Long n (row-at table j) d → point-at round r (row-at table j) d s < round .points
+  unfolding points-of
+  point-bound r j d s t l =
+      subst (λ (x : ℕ). point-at round r (row-at table j) d s < x) (sym (round .counted)) (number-below 114 r j d s t (chosen-bound round r (t .in-set)) l)
+
+  pub point-of : (p : ℕ) → p < round .points → (r : ℕ) × (j : ℕ) × (d : ℕ) × (s : Side) × IsPoint round table p r j d s
+  unfolding points-of
+  point-of p l = side-of-point 114 p (subst (λ (x : ℕ). p < x) (round .counted) l)

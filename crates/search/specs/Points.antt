@@ -26,11 +26,15 @@ pub data Side : Type 0 where
 abbrev pub is-long : ℕ → Row → ℕ → Bool
 is-long n row d = eqb (level-of row d) (rank n row / n)
 
+-- the long sides of a box before direction d
+abbrev pub longs-below : ℕ → Row → ℕ → ℕ
+longs-below n row d = sum d (λ e. bit (is-long n row e))
+
 -- the number of the point of the long side d of the box taken for rank r:
 -- after the points of the lower chosen ranks and those of the box's long sides before d, low before high
 abbrev pub point-at : Round → ℕ → Row → ℕ → Side → ℕ
-point-at round r row d low = points-below (round .shape .n) (ranks (round .chosen)) r + 2 * sum d (λ e. bit (is-long (round .shape .n) row e))
-point-at round r row d high = points-below (round .shape .n) (ranks (round .chosen)) r + 2 * sum d (λ e. bit (is-long (round .shape .n) row e)) + 1
+point-at round r row d low = points-below (round .shape .n) (ranks (round .chosen)) r + 2 * longs-below (round .shape .n) row d
+point-at round r row d high = points-below (round .shape .n) (ranks (round .chosen)) r + 2 * longs-below (round .shape .n) row d + 1
 
 -- row j is taken for the chosen rank r: it is the first box of the rank that can be cut
 pub record Taken (round : Round) (table : List Row) (r j : ℕ) : Type 0 where
@@ -53,9 +57,9 @@ Moved low first t x = x + third-at t ≡ middle-of first t
 Moved high first t x = x ≡ middle-of first t + third-at t
 
 -- low or high
-abbrev pub side-for : Bool → Side
-side-for true = high
-side-for false = low
+abbrev pub pick : Bool → Side
+pick true = high
+pick false = low
 
 -- x is the cell in direction e of the point of the long side d
 pub record Coordinate (row : Row) (d : ℕ) (s : Side) (e x : ℕ) : Type 0 where

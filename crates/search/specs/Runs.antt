@@ -2,7 +2,7 @@
 use mathlib.Core.Path.{_≡_}
 use mathlib.Core.Logic.{_≢_, _⊎_}
 use mathlib.Core.List.{List, [], _∷_, _++_, map}
-use Prim.Native.Nat.{ℕ, _+_, _-_, _*_, _^_, _<_, _≤_}
+use Prim.Native.Nat.{ℕ, _+_, _-_, _*_, _%_, _^_, _<_, _≤_}
 use lib.IntN.{ℤ}
 use lib.ListN.{length, getD, set, replicate}
 use Rattle.std.specs.declared.option.Option.{Option}
@@ -18,10 +18,11 @@ use Rattle.refusal.specs.declared.Refusal.{Refusal}
 use Rattle.table.specs.Boxes.{Own}
 use Rattle.table.specs.Entries.{shown-by}
 use Rattle.table.specs.Fronts.{FrontOf}
-use Rattle.table.specs.Rows.{IsCell, IsMiddle, LiesIn, row-at, side-of}
+use Rattle.table.specs.Rows.{IsCell, IsMiddle, LiesIn, rank, row-at, side-of}
 use Rattle.table.specs.Sums.{sum}
 use Rattle.table.specs.declared.rows.Row.{Row}
 use Rattle.search.specs.Calls.{Answers, Bests, Closes, FindsWaiting, Locates, Opens, OwnRest, OwnRound}
+use Rattle.search.specs.Points.{longs-below}
 use Rattle.search.specs.declared.states.Rest.{Rest}
 use Rattle.search.specs.declared.states.Round.{Round}
 
@@ -87,6 +88,11 @@ pub record CellsOf (round : Round) (table : List Row) (cells : List (List ℕ)) 
   pub count : length cells ≡ round .points
   pub each : (p : ℕ) → p < round .points
       → (list : List ℕ) × (length list ≡ round .shape .n) × Locates round table p list (Ok tt) (getD cells p [])
+
+-- an accepted open has cells for all its points, at least two of them
+abbrev pub LocatedCells : Result Round (Refusal × Rest) → List Row → Type 0
+LocatedCells (Ok round) table = (2 ≤ round .points) × ((cells : List (List ℕ)) × CellsOf round table cells)
+LocatedCells (Err refused) table = Unit {0}
 
 -- a meaning keeps the two rules at the front of a table
 abbrev pub LawfulAt : (Front → Ranks) → Rest → List Row → Type 0
@@ -168,9 +174,16 @@ pub record Holds (n finest : ℕ) (state : State) (table : List Row) (book : Boo
   pub noted-all : length (book .cells) ≡ boxes-of state + open-points state
   -- the table is the search's own
   pub own : OwnTable state table
+  -- the levels of a box differ by at most one, so that a box of rank r has n - (r mod n) long sides
+  pub long-sides : (j : ℕ) → j < boxes-of state → longs-below n (row-at table j) n ≡ n - rank n (row-at table j) % n
 
 -- whatever calls follow, these hold
 abbrev pub EveryRun : Rest → List Row → Answer → Type 0
 EveryRun begun written a =
     (state : State) (table : List Row) (book : Book) → Run begun written a state table book
     → Holds (begun .shape .n) (begun .shape .finest) state table book
+
+-- a first round of a search that begin gave: what holds of the search at rest after it, with one closed round
+abbrev pub FirstRound : ℕ → ℕ → Result Rest Refusal → List Row → Type 0
+FirstRound n finest (Ok rest) table = (book : Book) × Holds n finest (at-rest rest) table book × (book .rounds ≡ 1)
+FirstRound n finest (Err e) table = Unit {0}

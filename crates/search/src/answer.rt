@@ -2,7 +2,7 @@
 ghost use Prim.Native.Nat.{ℕ, _<_};
 ghost use lib.Dec.{T};
 ghost use Rattle.order.specs.Answers.{allowed};
-ghost use Rattle.search.specs.Calls.{AnswersIn, OwnRound, WaitingPoint, Waits};
+ghost use Rattle.search.specs.Calls.{Answers, AnswersIn, FindsWaiting, OwnRound, WaitingPoint, Waits};
 use crate::states::Round;
 use order::answer::Answer;
 use refusal::Refusal;
@@ -43,5 +43,28 @@ impl Round {
         }
         table[row].entry = Entry::Answered(answer);
         Ok(())
+    }
+
+    // Some point that waits, or none where none waits.
+    pub fn waiting(&self, table: &[Row]) -> Result<Option<usize>, Refusal>
+        ensures { λ r. ⌜ FindsWaiting (now (self .entry)) (now (table .entry)) r ⌝ }
+    {
+        if !self.owns(table) {
+            return Err(Refusal::NotOwnTable);
+        }
+        Ok(self.waiting_in(table))
+    }
+
+    // Replaces the waiting mark of a point by an answer.
+    pub fn answer(&self, point: usize, answer: Answer, table: &mut [Row]) -> Result<(), Refusal>
+        ensures { λ r. ⌜ Answers (now (self .entry)) (now (table .entry)) point answer r (now (table .exit)) ⌝ }
+    {
+        if !answer.is_allowed() {
+            return Err(Refusal::ReadingOutOfRange);
+        }
+        if !self.owns(table) {
+            return Err(Refusal::NotOwnTable);
+        }
+        self.answer_in(point, answer, table)
     }
 }

@@ -1,7 +1,13 @@
 // A search by dividing rectangles, on a table that the caller lends.
 mod answer;
-mod begin;
+pub mod begin;
 mod best;
+mod close;
+mod cutting;
 mod locate;
+mod look;
+pub mod once;
 mod open;
+mod sides;
 pub mod states;
+pub mod worked;

@@ -8,9 +8,9 @@ ghost use Rattle.ranks.specs.Ranks.{ranks};
 ghost use Rattle.table.specs.Boxes.{Long};
 ghost use Rattle.table.specs.Rows.{first-of, level-of, rank};
 ghost use Rattle.table.specs.Sums.{bit, sum};
-ghost use Rattle.search.specs.Calls.{LocatesIn, OwnRound};
+ghost use Rattle.search.specs.Calls.{Locates, LocatesIn, OwnRound};
 ghost use Rattle.search.specs.Counts.{points-below, points-of};
-ghost use Rattle.search.specs.Points.{Coordinate, Moved, is-long, side-for};
+ghost use Rattle.search.specs.Points.{Coordinate, Moved, is-long, pick};
 use crate::states::Round;
 use grid::interval::Interval;
 use ranks::rank_set::RankSet;
@@ -67,7 +67,7 @@ pub(crate) fn interval_in(row: &Row, d: usize) -> Interval
 // The middle of an interval, moved down or up by a third of its length: the middle of an outer third.
 fn moved(interval: Interval, high: bool) -> u32
     requires { ⌜ interval .level < 19 ⌝ }
-    ensures { λ r. ⌜ Moved (side-for high) (interval .first) (interval .level) r ⌝ }
+    ensures { λ r. ⌜ Moved (pick high) (interval .first) (interval .level) r ⌝ }
 {
     let thirds = interval.cut();
     if high {
@@ -80,7 +80,7 @@ fn moved(interval: Interval, high: bool) -> u32
 // A point's cell in direction e, where the point is of the long side d, low or high.
 fn coordinate(row: &Row, d: usize, high: bool, e: usize) -> u32
     requires { ⌜ e < 6 ⌝ ∗ ⌜ IsInterval (first-of (now row) e) (level-of (now row) e) ⌝ ∗ ⌜ level-of (now row) d < 19 ⌝ }
-    ensures { λ r. ⌜ Coordinate (now (row .entry)) d (side-for high) e r ⌝ }
+    ensures { λ r. ⌜ Coordinate (now (row .entry)) d (pick high) e r ⌝ }
 {
     let interval = interval_in(row, e);
     if e == d {
@@ -95,7 +95,7 @@ fn write_cell(row: &Row, n: usize, d: usize, high: bool, cells: &mut [u32])
     requires intervals { ⌜ ((e : ℕ) → e < n → IsInterval (first-of (now row) e) (level-of (now row) e)) ⌝ }
     requires side { ⌜ level-of (now row) d < 19 ⌝ }
     requires room { ⌜ n ≤ 6 ⌝ ∗ ⌜ n ≤ length (now cells) ⌝ }
-    ensures cell { λ _. ⌜ ((e : ℕ) → e < n → Coordinate (now (row .entry)) d (side-for high) e (getD (now (cells .exit)) e 0)) ⌝ }
+    ensures cell { λ _. ⌜ ((e : ℕ) → e < n → Coordinate (now (row .entry)) d (pick high) e (getD (now (cells .exit)) e 0)) ⌝ }
     ensures same { λ _. ⌜ length (now (cells .exit)) ≡ length (now (cells .entry)) ⌝ }
     ensures after { λ _. ⌜ ((e : ℕ) → n ≤ e → getD (now (cells .exit)) e 0 ≡ getD (now (cells .entry)) e 0) ⌝ }
 {
@@ -131,5 +131,15 @@ impl Round {
         let d = long_side(&row, n, rank / n, number / 2);
         write_cell(&row, n, d, number % 2 == 1, cells);
         Ok(())
+    }
+
+    // Writes a point's n cells into a cell list, and nothing after them.
+    pub fn locate(&self, point: usize, table: &[Row], cells: &mut [u32]) -> Result<(), Refusal>
+        ensures { λ r. ⌜ Locates (now (self .entry)) (now (table .entry)) point (now (cells .entry)) r (now (cells .exit)) ⌝ }
+    {
+        if !self.owns(table) {
+            return Err(Refusal::NotOwnTable);
+        }
+        self.locate_in(point, table, cells)
     }
 }

@@ -4,8 +4,9 @@ ghost use Prim.Native.Nat.{_≤_};
 ghost use lib.ListN.{length};
 ghost use Rattle.std.specs.Orderings.{Decides};
 ghost use Rattle.ranks.specs.Ranks.{ranks};
-ghost use Rattle.search.specs.Calls.{Cleared, OpensIn, OwnRest};
+ghost use Rattle.search.specs.Calls.{Cleared, Opens, OpensIn, OwnRest};
 ghost use Rattle.search.specs.Counts.{points-of};
+ghost use Rattle.search.specs.Runs.{LocatedCells};
 use crate::states::Rest;
 use crate::states::Round;
 use policy::policy::Policy;
@@ -76,5 +77,16 @@ impl Rest {
             chosen,
             points,
         })
+    }
+
+    // Uses up the search at rest and gives a round; a refusal hands the search back.
+    pub fn open<P: Policy>(self, policy: &P, table: &mut [Row]) -> Result<Round, (Refusal, Rest)>
+        ensures outcome { λ r. ⌜ Opens (P·Policy .chosen (now (policy .entry))) self (now (table .entry)) r (now (table .exit)) ⌝ }
+        ensures located { λ r. ⌜ LocatedCells r (now (table .exit)) ⌝ }
+    {
+        if !self.shape.owns(table, self.boxes) {
+            return Err((Refusal::NotOwnTable, self));
+        }
+        self.open_in(policy, table)
     }
 }

@@ -6,6 +6,9 @@ ghost use Rattle.search.specs.Counts.{points-of};
 use ranks::rank_set::RankSet;
 use table::shape::Shape;
 
+pub mod read;
+
+// At rest: the boxes are the rows 0 up to `boxes`, and a round can be opened.
 #[derive(Drop)]
 pub struct Rest {
     pub(crate) shape: Shape,
@@ -14,6 +17,7 @@ pub struct Rest {
     ghost few: { (2 * rounds < boxes) × (boxes ≤ 65535) },
 }
 
+// In a round: the rows from `boxes` on, as many as there are points, wait or have their answers.
 #[derive(Drop)]
 pub struct Round {
     pub(crate) shape: Shape,

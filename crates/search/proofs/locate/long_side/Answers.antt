@@ -1,7 +1,7 @@
 -- One direction more.
 use mathlib.Core.Path.{_∙_}
 use native.Mathlib.Omega.{arith}
-use Rattle.search.proofs.Places.{longs-in, longs-out}
+use Rattle.search.proofs.LocateSteps.{longs-in, longs-out}
 use Rattle.search.proofs.locate.long_side.Needs as need
 use Rattle.search.proofs.locate.long_side.Needs.{then-row-d·else-seen-number, else-row-d}
 

@@ -5,7 +5,7 @@ use Prim.Native.Nat.{ℕ, _/_}
 use native.Mathlib.Omega.{arith}
 use borrow.Author.Needs.{needs}
 use lib.Dec.{T}
-use Rattle.search.proofs.Places.{at-first, coarse-side, located-in, no-first, side-number}
+use Rattle.search.proofs.LocateSteps.{at-first, coarse-side, located-in, no-first, side-number}
 use Rattle.search.proofs.Slices.{first-in-table}
 use Rattle.search.proofs.states.Round.locate_in.Needs as need
 
