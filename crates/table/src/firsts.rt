@@ -33,7 +33,7 @@ impl Shape {
         ensures { λ r. ⌜ r ≡ rank (now (self .entry) .n) (now (row .entry)) ⌝ }
     {
         let mut rank = 0;
-        for d in 0..self.directions() as usize {
+        for d in 0..self.n as usize {
             rank += row.levels[d] as usize;
         }
         rank
@@ -43,7 +43,7 @@ impl Shape {
     pub fn firsts(&self, boxes: &[Row]) -> [Option<Candidate>; RANKS]
         ensures { λ f. ⌜ ((r : ℕ) → r < 114 → FirstOfRank (now (self .entry) .n) (now (self .entry) .finest) (length (now (boxes .entry))) (now (boxes .entry)) r (getD f r None)) ⌝ }
     {
-        let below = self.directions() as usize * self.finest() as usize;
+        let below = self.n as usize * self.finest as usize;
         let mut firsts = [None; RANKS];
         for row in 0..boxes.len() {
             let rank = self.rank_of(&boxes[row]);

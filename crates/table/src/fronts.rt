@@ -57,7 +57,7 @@ impl Shape {
         ensures only { λ f. ⌜ ((g : FrontValue) → FrontOf (now (self .entry) .n) (now (self .entry) .finest) (length (now (boxes .entry))) (now (boxes .entry)) g → g ≡ f) ⌝ }
     {
         let entries = entries_of(&self.firsts(boxes));
-        match Front::new(self.directions(), entries, readings_of(boxes)) {
+        match Front::new(self.n, entries, readings_of(boxes)) {
             Some(front) => front,
             None => unreachable(),
         }

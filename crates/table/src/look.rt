@@ -46,10 +46,8 @@ impl Shape {
         if row.entry.waits() {
             return false;
         }
-        let n = self.directions() as usize;
-        let finest = self.finest();
         for d in 0..SIDES {
-            if !is_box_in(row, n, finest, d) {
+            if !is_box_in(row, self.n as usize, self.finest, d) {
                 return false;
             }
         }

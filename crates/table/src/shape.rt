@@ -3,6 +3,7 @@ ghost use Prim.Native.Nat.{_≤_};
 
 pub mod make;
 
+// The number of directions n, and the finest level.
 #[derive(Clone, Copy)]
 pub struct Shape {
     pub n: u8,

@@ -1,4 +1,4 @@
-// Making a shape, after its two checks, and reading it.
+// Making a shape, after its two checks.
 ghost use mathlib.Core.Path.{_≡_};
 ghost use Prim.Native.Nat.{_≤_};
 ghost use Rattle.std.specs.declared.result.Result.the-variants.{Err};
@@ -19,19 +19,5 @@ impl Shape {
             return Err(Refusal::FinestLevel);
         }
         Ok(Shape { n, finest })
-    }
-
-    // The number of directions.
-    pub fn directions(&self) -> u8
-        ensures { λ r. ⌜ r ≡ now (self .entry) .n ⌝ }
-    {
-        self.n
-    }
-
-    // The finest level.
-    pub fn finest(&self) -> u8
-        ensures { λ r. ⌜ r ≡ now (self .entry) .finest ⌝ }
-    {
-        self.finest
     }
 }

@@ -1,6 +1,5 @@
 -- One box more.
-use mathlib.Core.Path.{_≡_, refl, ap, ap₂, sym, _∙_}
-use Prim.Native.Nat.{ℕ, _*_, _<_}
+use mathlib.Core.Path.{_≡_, refl, ap, sym, _∙_}
 use native.Mathlib.Omega.{arith}
 use lib.ListN.{length, getD-replicate, length-set}
 use Rattle.std.specs.declared.option.Option.the-variants.{None}
@@ -11,28 +10,23 @@ use Rattle.table.proofs.shape.Shape.firsts.Needs.{then-rank-below·in-Some, th
 pub loop-row-holds : need.loop-row-holds
 loop-row-holds c = (refl, λ r h. firsts-none _ _ _ r _ (getD-replicate 114 r None None h))
 
--- what the code multiplies is the product of the shape's numbers
-product : (a b n f : ℕ) → a ≡ n → b ≡ f → a * b ≡ n * f
-product a b n f p q = ap₂ (λ (x y : ℕ). x * y) p q
-
 pub index-firsts-rank : need.index-firsts-rank
 index-firsts-rank c =
     let s = c .args .self .now in
-    rank-bound (s .n) (s .finest) _ (s .few) (s .fine) (omega (arith, product _ _ (s .n) (s .finest) (c .directions .ensures) (c .finest .ensures), c .if-rank-below .taken))
+    rank-bound (s .n) (s .finest) _ (s .few) (s .fine) (c .if-rank-below .taken)
 
 pub index-firsts-rank-in-Some : need.index-firsts-rank-in-Some
 index-firsts-rank-in-Some c =
     let s = c .args .self .now in
-    rank-bound (s .n) (s .finest) _ (s .few) (s .fine) (omega (arith, product _ _ (s .n) (s .finest) (c .directions .ensures) (c .finest .ensures), c .if-rank-below .taken))
+    rank-bound (s .n) (s .finest) _ (s .few) (s .fine) (c .if-rank-below .taken)
 
 pub loop-row-again : need.loop-row-again
 loop-row-again c =
     let s = c .args .self .now in
-    let below = product _ _ (s .n) (s .finest) (c .directions .ensures) (c .finest .ensures) in
     let table = c .args .boxes .now in let i = c .loop-row .row in
     elim (c .if-rank-below .came) [
       | then-rank-below·in-Some w ↦
-          let cut : c .rank-of-rank .result < s .n * s .finest = omega (arith, below, w .if-rank-below .taken) in
+          let cut = w .if-rank-below .taken in
           let low = rank-bound (s .n) (s .finest) _ (s .few) (s .fine) cut in (
             ap length (w .firsts-is) ∙ simp length-set (c .loop-row .inv .0),
             λ r h. rw (w .firsts-is) (firsts-put (s .n) (s .finest) table i (c .loop-row .firsts) (c .rank-of-rank .result)
@@ -46,7 +40,7 @@ loop-row-again c =
       | else-rank-below w ↦ (
         ap length (w .firsts-is) ∙ c .loop-row .inv .0,
         λ r h. rw (w .firsts-is) (firsts-other (s .n) (s .finest) table i r _
-            (λ e l a shows. omega (arith, c .rank-of-rank .ensures, below, w .if-rank-below .left)) (c .loop-row .inv .1 r h)),
+            (λ e l a shows. omega (arith, c .rank-of-rank .ensures, w .if-rank-below .left)) (c .loop-row .inv .1 r h)),
       )
     ]
 

@@ -18,10 +18,10 @@ unreachable-requires c κs =
     let long : length entries ≡ 114 = search needs in
     let readings = c .readings-of .ensures in
     c .in-None .ensures tt (
-      omega (arith, c .directions .ensures, s .some),
-      omega (arith, c .directions .ensures, s .few),
+      s .some,
+      s .few,
       long,
-      rw (c .directions .ensures) (empty-from (s .n) (s .finest) (length table) table entries (c .firsts .result) long (c .entries-of-entries .ensures) (c .firsts .ensures) (s .fine)),
+      empty-from (s .n) (s .finest) (length table) table entries (c .firsts .result) long (c .entries-of-entries .ensures) (c .firsts .ensures) (s .fine),
       ends-of (s .n) (s .finest) (length table) table _ readings,
       all-fit (s .n) (s .finest) (length table) table entries (c .firsts .result) long (c .entries-of-entries .ensures) (c .firsts .ensures) (c .readings-of .result) readings,
     )
@@ -32,7 +32,7 @@ returns c =
     let made = c .in-Some .ensures tt in
     let front : FrontOf (s .n) (s .finest) (length table) table (c .in-Some .front) =
     record {
-      directions = made .0 ∙ c .directions .ensures;
+      directions = made .0;
       readings = subst (ReadingsOf (length table) table) (sym (made .2)) (c .readings-of .ensures);
       entries = λ r h. (getD (c .firsts .result) r None, c .firsts .ensures r h, ap (λ xs. getD xs r None) (made .1) ∙ c .entries-of-entries .ensures r h);
     } in
