@@ -5,7 +5,8 @@ ghost use Prim.Native.Nat.{ℕ, _+_, _-_, _*_, _/_, _%_, _<_, _≤_};
 ghost use lib.ListN.{getD, length};
 ghost use Rattle.grid.specs.Grid.{IsInterval};
 ghost use Rattle.ranks.specs.Ranks.{ranks};
-ghost use Rattle.table.specs.Boxes.{Long};
+ghost use Rattle.std.specs.declared.option.Option.the-variants.{None};
+ghost use Rattle.table.specs.Boxes.{FirstOfRank, Long};
 ghost use Rattle.table.specs.Rows.{first-of, level-of, rank};
 ghost use Rattle.table.specs.Sums.{bit, sum};
 ghost use Rattle.search.specs.Calls.{Locates, LocatesIn, OwnRound};
@@ -13,6 +14,8 @@ ghost use Rattle.search.specs.Counts.{points-below, points-of};
 ghost use Rattle.search.specs.Points.{Coordinate, Moved, is-long, pick};
 use crate::states::Round;
 use grid::interval::Interval;
+use order::records::Candidate;
+use ranks::rank_set::RANKS;
 use ranks::rank_set::RankSet;
 use refusal::Refusal;
 use table::rows::Row;
@@ -54,7 +57,7 @@ fn long_side(row: &Row, n: usize, level: usize, number: usize) -> usize
 }
 
 // The interval of a box in a direction.
-pub(crate) fn interval_in(row: &Row, d: usize) -> Interval
+fn interval_in(row: &Row, d: usize) -> Interval
     requires { ⌜ d < 6 ⌝ ∗ ⌜ IsInterval (first-of (now row) d) (level-of (now row) d) ⌝ }
     ensures { λ r. ⌜ (r .first ≡ first-of (now (row .entry)) d) × (r .level ≡ level-of (now (row .entry)) d) ⌝ }
 {
@@ -105,14 +108,16 @@ fn write_cell(row: &Row, n: usize, d: usize, high: bool, cells: &mut [u32])
 }
 
 impl Round {
-    // As `locate`, where the table is known to be the round's own.
-    pub(crate) fn locate_in(
+    // As `locate`, where the table is known to be the round's own, and the first boxes of its ranks are at hand.
+    pub(crate) fn locate_at(
         &self,
         point: usize,
         table: &[Row],
+        firsts: &[Option<Candidate>; RANKS],
         cells: &mut [u32],
     ) -> Result<(), Refusal>
-        requires { ⌜ OwnRound (now self) (now table) ⌝ }
+        requires own { ⌜ OwnRound (now self) (now table) ⌝ }
+        requires found { ⌜ ((r : ℕ) → r < 114 → FirstOfRank (now self .shape .n) (now self .shape .finest) (now self .boxes) (now table) r (getD (now firsts) r None)) ⌝ }
         ensures { λ r. ⌜ LocatesIn (now (self .entry)) (now (table .entry)) point (now (cells .entry)) r (now (cells .exit)) ⌝ }
     {
         let n = self.shape.n as usize;
@@ -123,7 +128,7 @@ impl Round {
             return Err(Refusal::ShortCellList);
         }
         let (rank, number) = rank_at(n, self.chosen, point);
-        let taken = match self.shape.firsts(&table[0..self.boxes])[rank] {
+        let taken = match firsts[rank] {
             Some(first) => first.row,
             None => unreachable(),
         };
@@ -131,6 +136,20 @@ impl Round {
         let d = long_side(&row, n, rank / n, number / 2);
         write_cell(&row, n, d, number % 2 == 1, cells);
         Ok(())
+    }
+
+    // As `locate`, where the table is known to be the round's own.
+    pub(crate) fn locate_in(
+        &self,
+        point: usize,
+        table: &[Row],
+        cells: &mut [u32],
+    ) -> Result<(), Refusal>
+        requires { ⌜ OwnRound (now self) (now table) ⌝ }
+        ensures { λ r. ⌜ LocatesIn (now (self .entry)) (now (table .entry)) point (now (cells .entry)) r (now (cells .exit)) ⌝ }
+    {
+        let firsts = self.shape.firsts(&table[0..self.boxes]);
+        self.locate_at(point, table, &firsts, cells)
     }
 
     // Writes a point's n cells into a cell list, and nothing after them.

@@ -8,4 +8,6 @@ mod policies;
 #[cfg(test)]
 mod refusals;
 #[cfg(test)]
+mod searches;
+#[cfg(test)]
 mod tables;
