@@ -8,7 +8,6 @@ use native.Mathlib.Omega.{arith}
 use lib.IntN.{ℤ}
 use lib.ListN.{length, getD}
 use Rattle.std.proofs.shelf.Tests.{and-left, and-right, cases-lt, le-ltb, not-from-true, or-from, true≢false}
-use Rattle.std.specs.declared.option.Option.{Option}
 use Rattle.std.specs.declared.option.Option.the-variants.{Some}
 use Rattle.order.specs.Answers.{answer-before}
 use Rattle.order.specs.First.{FirstAmong, IsFirst}
@@ -21,7 +20,7 @@ use Rattle.table.specs.Rows.{no-row, row-at}
 use Rattle.table.specs.declared.rows.Row.{Row}
 use Rattle.search.specs.Calls.{BoxOf, OwnRest}
 use Rattle.search.specs.declared.states.Rest.{Rest}
-use Rattle.search.proofs.Firsts.{shown-is}
+use Rattle.search.proofs.Firsts.{one-answer, shown-is}
 use Rattle.search.proofs.Slices.{rows, rows-at, rows-length}
 
 last : (a : Answer) → answer-before a NotFeasible ≡ false → a ≡ NotFeasible
@@ -30,9 +29,6 @@ last NotFeasible h = refl
 
 apart : (x : ℤ) → Reading x ≡ NotFeasible → ⊥
 apart x e = let z : _≡_ {A = ℕ} 0 1 = cc in omega arith
-
-one-answer : (o : Option Answer) (a b : Answer) → o ≡ Some a → o ≡ Some b → a ≡ b
-one-answer o a b p q = cc
 
 module _ (rest : Rest) (table : List Row) (i : ℕ) (own : OwnRest rest table)
     (first : IsFirst (λ (x y : Row). answer-before (answer-of (x .entry)) (answer-of (y .entry))) (rows (rest .boxes) table) i) where

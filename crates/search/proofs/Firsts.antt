@@ -32,7 +32,7 @@ box-level n finest boxes table r j a h =
 one-row : (a b : Candidate) → Some a ≡ Some b → a .row ≡ b .row
 one-row a b h = let e : a ≡ b = cc in ap (λ (c : Candidate). c .row) e
 
-one-answer : (o : Option Answer) (a b : Answer) → o ≡ Some a → o ≡ Some b → a ≡ b
+pub one-answer : (o : Option Answer) (a b : Answer) → o ≡ Some a → o ≡ Some b → a ≡ b
 one-answer o a b p q = cc
 
 pub shown-is : (o : Option Answer) → none-shown o ≡ false → o ≡ Some (or-last o)

@@ -22,7 +22,7 @@ use Rattle.search.specs.Counts.{points-of}
 use Rattle.search.specs.declared.states.Rest.{Rest}
 use Rattle.search.specs.declared.states.Round.{Round}
 
-ok-err : {X E Y : Type 0} {x : X} {e : E} → Ok x ≡ Err e → Y
+pub ok-err : {X E Y : Type 0} {x : X} {e : E} → Ok x ≡ Err e → Y
 ok-err p = let z : _≡_ {A = ℕ} 0 1 = cc in absurd (omega arith)
 
 -- the state that a refusal gives back

@@ -2,7 +2,6 @@
 use mathlib.Core.Path.{_≡_, _∙_}
 use mathlib.Core.Logic.{inl, inr}
 use Prim.Native.Nat.{ℕ, _≤_}
-use native.Mathlib.Omega.{arith}
 use Rattle.std.specs.declared.result.Result.{Result}
 use Rattle.std.specs.declared.result.Result.the-variants.{Ok, Err}
 use Rattle.refusal.specs.Checks.{Check, Gives}
@@ -11,6 +10,7 @@ use Rattle.refusal.specs.declared.Refusal.the-variants.{Directions, FinestLevel
 use Rattle.table.specs.declared.shape.Shape.{Shape}
 use Rattle.search.specs.Calls.{Begun}
 use Rattle.search.specs.declared.states.Rest.{Rest}
+use Rattle.search.proofs.Outcomes.{ok-err}
 
 -- a shape passed its two checks
 pub record ShapeOf (n finest : ℕ) (shape : Shape) : Type 0 where
@@ -18,9 +18,6 @@ pub record ShapeOf (n finest : ℕ) (shape : Shape) : Type 0 where
   pub levels : (1 ≤ finest) × (finest ≤ 19)
   pub is-n : shape .n ≡ n
   pub is-finest : shape .finest ≡ finest
-
-ok-err : {Y : Type 0} {x : Shape} {e : Refusal} → _≡_ {A = Result Shape Refusal} (Ok x) (Err e) → Y
-ok-err p = let z : _≡_ {A = ℕ} 0 1 = cc in absurd (omega arith)
 
 pub shape-of : (n finest : ℕ) (shape : Shape)
     → Check ((1 ≤ n) × (n ≤ 6)) (_≡_ {A = Result Shape Refusal} (Ok shape) (Err Directions))
