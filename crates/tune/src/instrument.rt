@@ -1,23 +1,55 @@
-// A small built-in instrument of two settings, in whole numbers.
-ghost use Prim.Native.Nat.{_<_};
+// A small built-in instrument of two dials, in whole numbers.
+ghost use Prim.Native.Nat.{_≤_};
+ghost use lib.Dec.{T};
+ghost use Rattle.order.specs.Answers.{allowed};
+use crate::cell::Cell;
 use order::answer::Answer;
 
-// The cells between two notches of a dial; a dial has nine notches.
-const NOTCH: u32 = 129_140_163;
+// The cells of one step of a dial; the steps are 0 to 728.
+const STEP: u32 = 1_594_323;
 
-// What each dial adds to the reading, notch by notch.
-const FIRST_DIAL: [i32; 9] = [28, 20, 12, 18, 30, 36, 44, 50, 58];
+const LAST_STEP: u32 = 728;
 
-const SECOND_DIAL: [i32; 9] = [6, 0, 8, 14, 20, 24, 27, 30, 31];
-
-// The notch of a cell; all that is past the last one counts as the last.
-fn notch(cell: u32) -> usize
-    ensures { λ r. ⌜ r < 9 ⌝ }
+// The step of a cell.
+fn step(cell: u32) -> u32
+    ensures { λ r. ⌜ r ≤ 728 ⌝ }
 {
-    ((cell / NOTCH) as usize).min(8)
+    (cell / STEP).min(LAST_STEP)
 }
 
-// The reading at a cell.
-pub fn measure(cell: [u32; 2]) -> Answer {
-    Answer::Reading(FIRST_DIAL[notch(cell[0])] + SECOND_DIAL[notch(cell[1])])
+// The square of how far a step is from another.
+fn square(step: u32, from: u32) -> u32
+    requires { ⌜ step ≤ 728 ⌝ ∗ ⌜ from ≤ 728 ⌝ }
+    ensures { λ r. ⌜ r ≤ 529984 ⌝ }
+{
+    let distance = step.abs_diff(from);
+    distance * distance
+}
+
+// Where both dials stand high the instrument overheats, and nothing can be measured.
+fn overheats(x: u32, y: u32) -> bool {
+    x > 500 && y > 260
+}
+
+// Two valleys of readings: the deep one is lowest at steps 430 and 230, the shallow one at 150 and 520.
+fn reading(x: u32, y: u32) -> u32
+    requires { ⌜ x ≤ 728 ⌝ ∗ ⌜ y ≤ 728 ⌝ }
+    ensures { λ r. ⌜ r ≤ 200000 ⌝ }
+{
+    let deep = 50 + (square(x, 430) + 2 * square(y, 230)) / 10;
+    let shallow = 900 + (2 * square(x, 150) + square(y, 520)) / 10;
+    deep.min(shallow)
+}
+
+// The answer at a cell: one that every search takes.
+pub fn measure(cell: Cell) -> Answer
+    ensures { λ r. ⌜ T (allowed r) ⌝ }
+{
+    let x = step(cell.0[0]);
+    let y = step(cell.0[1]);
+    if overheats(x, y) {
+        Answer::NotFeasible
+    } else {
+        Answer::Reading(reading(x, y) as i32)
+    }
 }
