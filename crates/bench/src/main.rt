@@ -1,5 +1,7 @@
 // Times of the package beside those of the second implementation; they go to standard error.
 // One argument sets the answers of the longest record; without it the sizes are those of docs/PERFORMANCE.md.
+#![tactic(auto)]
+
 mod draw;
 mod fail;
 mod looks;

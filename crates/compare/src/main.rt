@@ -1,4 +1,6 @@
 // Runs the search beside a second implementation, call by call, and compares what both give.
+#![tactic(auto)]
+
 mod craft;
 mod desk;
 mod draw;

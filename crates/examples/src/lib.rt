@@ -1,2 +1,4 @@
 // The worked examples of the rules.
+#![tactic(auto)]
+
 pub mod worked;

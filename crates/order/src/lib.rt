@@ -1,4 +1,6 @@
 // Answers, records whose order is total, and the first of several of them.
+#![tactic(auto)]
+
 pub mod answer;
 pub mod arrange;
 pub mod least;

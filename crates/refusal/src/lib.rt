@@ -1,16 +1,19 @@
 // Why a call refuses, and the number by which each refusal is reported.
-ghost use Rattle.std.specs.Prelude.{◌≡◌, ℕ, Some, Decides};
+#![tactic(auto)]
+
+ghost use Rattle.std.specs.Prelude.{◌≡◌, ℕ, Some, Decides, nat_eq};
 ghost use Rattle.refusal.specs.Numbers.{number_of};
 ghost use Rattle.refusal.specs.Words.{words_of};
 ghost use Rattle.refusal.specs.declared.Refusal.{Refusal as Cause};
 ghost use Rattle.std.specs.Cmp.Rules.{comparing};
 ghost use Rattle.std.proofs.Common.{rules};
-ghost use Rattle.std.specs.Cmp as Keys;
+ghost use Rattle.std.specs.Cmp.{partial_equiv_from_equiv};
+ghost use Rattle.std.specs.Ordering.{on};
 
 use std::fmt;
 
 // One case for each cause. The numbers 14 and 15 are not in use.
-#[derive(Clone, Copy, Eq, Debug)]
+#[derive(Clone, Copy, Debug)]
 pub enum Refusal {
     // begin: the directions are not 1 to 6
     Directions,
@@ -103,13 +106,20 @@ impl Refusal {
 
 // Two causes are the same exactly when their numbers are.
 impl PartialEq for Refusal {
-    ghost equals = { λ a b r. Decides r (a ≡ b) };
+    ghost eq = { on number_of nat_eq };
 
-    ghost laws = { Keys.partial_equiv_from_equiv (Prim.search (comparing, rules)) };
+    ghost laws = { partial_equiv_from_equiv (Prim.search (comparing, rules)) };
 
-    fn eq(&self, other: &Refusal) -> bool {
+    fn eq(&self, other: &Refusal) -> bool
+        ensures value { result ≡ on number_of nat_eq self.now other.now }
+        ensures same { Decides result (self.now ≡ other.now) }
+    {
         self.number() == other.number()
     }
+}
+
+impl Eq for Refusal {
+    ghost laws = { Prim.search (comparing, rules) };
 }
 
 impl fmt::Display for Refusal {

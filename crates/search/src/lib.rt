@@ -1,4 +1,6 @@
 // A search by dividing rectangles, on a table that the caller lends.
+#![tactic(auto)]
+
 mod answer;
 pub mod begin;
 mod best;

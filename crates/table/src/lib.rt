@@ -1,4 +1,6 @@
 // Tables of boxes: their rows, what makes a row a box, the first box of each rank, the front.
+#![tactic(auto)]
+
 pub mod firsts;
 pub mod fronts;
 pub mod look;

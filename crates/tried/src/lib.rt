@@ -1,4 +1,6 @@
 // Examples, run as tests.
+#![tactic(auto)]
+
 #[cfg(test)]
 mod answers;
 #[cfg(test)]

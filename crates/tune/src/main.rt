@@ -1,4 +1,6 @@
 // A whole search for the best setting of a small instrument, with its steps printed.
+#![tactic(auto)]
+
 mod cell;
 mod cut;
 mod guarantee;

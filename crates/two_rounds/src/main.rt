@@ -1,4 +1,6 @@
 // Two rounds of a search of one direction, one after the other.
+#![tactic(auto)]
+
 use order::answer::Answer;
 use policy::every::Every;
 use refusal::Refusal;
