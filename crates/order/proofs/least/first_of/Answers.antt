@@ -5,5 +5,5 @@ use Rattle.order.proofs.least.first_of.Goals as goal
 
 pub returns : goal.returns
 returns g c =
-    let first = c.in-ok-i.ensures.first in
-    (c.in-ok-i.i, first, λ d. sym (get_or_read _ _ _ first.within c.index-records-i.is d))
+    let first = c.in_ok-i.ensures.first in
+    (c.in_ok-i.i, first, λ d. sym (get_or_read _ _ _ first.within c.index-records-i.is d))
