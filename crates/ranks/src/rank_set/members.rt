@@ -48,7 +48,10 @@ impl PartialEq for RankSet {
 
     ghost laws = { first_of (Prim.search (comparing, rules), Prim.grind (arith, Self.row.coded.inj)) };
 
-    fn eq(&self, other: &RankSet) -> bool {
+    fn eq(&self, other: &RankSet) -> bool
+        ensures value { result ≡ eq_of_both (on (λ v. v.low) nat_eq) (on (λ v. v.high) nat_eq) self.now other.now }
+        ensures same { Decides result (ranks self.now ≡ ranks other.now) }
+    {
         self.low == other.low && self.high == other.high
     }
 }

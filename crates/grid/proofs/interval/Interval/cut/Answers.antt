@@ -5,20 +5,20 @@ use Rattle.grid.specs.Grid.{cells_at}
 use Rattle.grid.proofs.Lengths.{cells_at_third, third}
 use Rattle.grid.proofs.interval.Interval.cut.Goals as goal
 
-pub invariant-of-result : goal.invariant-of-result
-invariant-of-result c = let s = c.args.self.now in (third s.first s.level 0 s.form c.requires (omega arith) (omega arith), tt)
+pub invariant_of-result : goal.invariant_of-result
+invariant_of-result c = let s = c.args.self.now in record { form = third s.first s.level 0 s.form c.requires (omega arith) (omega arith) }
 
-pub invariant-of-result-2 : goal.invariant-of-result-2
-invariant-of-result-2 c = let s = c.args.self.now in (third s.first s.level 1 s.form c.requires (omega arith) (omega arith), tt)
+pub invariant_of-result-2 : goal.invariant_of-result-2
+invariant_of-result-2 c = let s = c.args.self.now in record { form = third s.first s.level 1 s.form c.requires (omega arith) (omega arith) }
 
-pub invariant-of-result-3 : goal.invariant-of-result-3
-invariant-of-result-3 c = let s = c.args.self.now in (third s.first s.level 2 s.form c.requires (omega arith) (omega arith), tt)
+pub invariant_of-result-3 : goal.invariant_of-result-3
+invariant_of-result-3 c = let s = c.args.self.now in record { form = third s.first s.level 2 s.form c.requires (omega arith) (omega arith) }
 
 pub returns : goal.returns
 returns c =
     let first : ℕ = c.args.self.now.first in
-    let s : ℕ = c.cells-at-third.result in
-    let is : s ≡ cells_at (c.args.self.now.level + 1) = c.cells-at-third.ensures.value in
+    let s : ℕ = c.cells_at-third.result in
+    let is : s ≡ cells_at (c.args.self.now.level + 1) = c.cells_at-third.ensures.value in
     let whole : cells_at c.args.self.now.level ≡ 3 * s = cells_at_third c.args.self.now.level c.requires ∙ ap (λ (n : ℕ). 3 * n) (sym is) in
     record {
       thirds = record {

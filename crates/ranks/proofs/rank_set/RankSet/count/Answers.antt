@@ -5,8 +5,8 @@ use Rattle.ranks.specs.Ranks.{ranks}
 use Rattle.ranks.proofs.Words.{count_words}
 use Rattle.ranks.proofs.rank_set.RankSet.count.Goals as goal
 
-pub overflow-add-result : goal.overflow-add-result
-overflow-add-result c =
+pub overflow_add-result : goal.overflow_add-result
+overflow_add-result c =
     let s = c.args.self.now in
     search (rules, ones-le 64 s.low s.whole, ones-le 50 s.high s.short)
 

@@ -7,17 +7,17 @@ use Rattle.ranks.specs.Ranks.{ranks}
 use Rattle.ranks.proofs.Words.{put_low, put_high}
 use Rattle.ranks.proofs.rank_set.RankSet.insert.Goals as goal
 
-pub invariant-of-self : goal.invariant-of-self
-invariant-of-self c =
+pub invariant_of-self : goal.invariant_of-self
+invariant_of-self c =
     let s = c.args.self.now in
     search (rules, or_lt 64 s.low ((1 * 2 ^ c.args.rank) % 2 ^ 64) s.whole (omega arith))
 
-pub invariant-of-self-then-rank-lt-RANKS : goal.invariant-of-self-then-rank-lt-RANKS
-invariant-of-self-then-rank-lt-RANKS c =
+pub invariant_of-self-then-rank-lt-RANKS : goal.invariant_of-self-then-rank-lt-RANKS
+invariant_of-self-then-rank-lt-RANKS c =
     let s = c.args.self.now in
     let r : ℕ = c.args.rank - 64 in
     let small : 2 ^ r < 2 ^ 50 = pow_below r 50 (omega arith) in
-    (s.whole, (or_lt 50 s.high ((1 * 2 ^ r) % 2 ^ 64) s.short (omega (arith, one_shl r 64 (omega arith), small)), tt))
+    record { whole = s.whole; short = or_lt 50 s.high ((1 * 2 ^ r) % 2 ^ 64) s.short (omega (arith, one_shl r 64 (omega arith), small)) }
 
 pub returns-then-rank-lt64 : goal.returns-then-rank-lt64
 unfolding ranks

@@ -20,22 +20,22 @@ returns-then-count-m c =
 pub loop-taken-init : goal.loop-taken-init
 loop-taken-init c = let p = ranks c.args.self in (c.empty-chosen.ensures ∙ kept_none p, rest_all p)
 
-pub returns-in-default : goal.returns-in-default
-returns-in-default c =
+pub returns-in_default : goal.returns-in_default
+returns-in_default c =
     let s = c.args.self in
     let t = c.loop-taken.chosen in
     let m = c.args.m in
     let inv = c.loop-taken.invariant in
-    let spent = sym inv.1 ∙ c.in-default.ensures.lowest in
-    let e : ranks t ≡ lowest_of m (ranks s) = inv.0 ∙ kept_all (ranks s) c.loop-taken.-taken m (omega arith) spent in
+    let spent = sym inv.1 ∙ c.in_default.ensures.lowest in
+    let e : ranks t ≡ lowest_of m (ranks s) = inv.0 ∙ kept_all (ranks s) c.loop-taken._taken m (omega arith) spent in
     record { value = e; size = sized s t m e }
 
 pub loop-taken-preserved : goal.loop-taken-preserved
 loop-taken-preserved c =
     let inv = c.loop-taken.invariant in
     let popped = c.in-Some.ensures in
-    take_one (ranks c.args.self) c.loop-taken.-taken c.in-Some.rank (ranks c.loop-taken.chosen) (ranks c.loop-taken.rest)
-    (ranks c.insert.new.self) (ranks c.pop-first.new.self)
+    take_one (ranks c.args.self) c.loop-taken._taken c.in-Some.rank (ranks c.loop-taken.chosen) (ranks c.loop-taken.rest)
+    (ranks c.insert.new.self) (ranks c.pop_first.new.self)
     inv.0 inv.1 popped.lowest.0 (c.insert.ensures.put popped.lowest.1) popped.rest
 
 pub returns : goal.returns
@@ -43,6 +43,6 @@ returns c =
     let s = c.args.self in
     let t = c.loop-taken.chosen in
     let m = c.args.m in
-    let all : c.loop-taken.-taken ≡ m = omega arith in
+    let all : c.loop-taken._taken ≡ m = omega arith in
     let e : ranks t ≡ lowest_of m (ranks s) = c.loop-taken.invariant.0 ∙ ap (λ i. lowest_of i (ranks s)) all in
     record { value = e; size = sized s t m e }

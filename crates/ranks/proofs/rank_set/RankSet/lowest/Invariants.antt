@@ -7,4 +7,4 @@ use Rattle.ranks.proofs.rank_set.RankSet.lowest.Given as goal
 abbrev pub invariant-loop-taken : goal.invariant-loop-taken
 invariant-loop-taken l =
     let p = ranks l.initial.rest in
-    (ranks l.chosen ≡ lowest_of l.-taken p) × (ranks l.rest ≡ after p l.-taken)
+    (ranks l.chosen ≡ lowest_of l._taken p) × (ranks l.rest ≡ after p l._taken)

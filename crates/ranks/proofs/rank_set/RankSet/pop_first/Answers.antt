@@ -10,27 +10,27 @@ pub returns-then-self-ne0 : goal.returns-then-self-ne0
 unfolding ranks
 returns-then-self-ne0 c =
     let s = c.args.self.now in
-    let w = c.in-ok-rank.ensures in
+    let w = c.in_ok-rank.ensures in
     record {
       lowest = w;
-      rest = fun_ext (rest_low s.high s.low s.whole c.if-self-ne0.true c.in-ok-rank.rank w.0);
+      rest = fun_ext (rest_low s.high s.low s.whole c.if-self-ne0.true c.in_ok-rank.rank w.0);
     }
 
 pub returns-then-self-ne0-2 : goal.returns-then-self-ne0-2
 unfolding ranks
 returns-then-self-ne0-2 c =
     let s = c.args.self.now in
-    let w = c.in-ok-rank.ensures in
+    let w = c.in_ok-rank.ensures in
     record {
       lowest = w;
-      rest = fun_ext (rest_high s.high s.low s.whole s.short c.if-self-ne0.false c.if-self-ne0-2.true c.in-ok-rank.rank w.0);
+      rest = fun_ext (rest_high s.high s.low s.whole s.short c.if-self-ne0.false c.if-self-ne0-2.true c.in_ok-rank.rank w.0);
     }
 
 pub returns-else-self-ne0-2 : goal.returns-else-self-ne0-2
 unfolding ranks
 returns-else-self-ne0-2 c =
     let s = c.args.self.now in
-    let w = c.in-ok-rank.ensures in
-    let k = c.in-ok-rank.rank in
+    let w = c.in_ok-rank.ensures in
+    let k = c.in_ok-rank.rank in
     let empty = no_words s.high s.low c.if-self-ne0-2.false c.if-self-ne0.false in
     absurd (both_ways _ (ap (λ p. p k) empty) w.0.has)

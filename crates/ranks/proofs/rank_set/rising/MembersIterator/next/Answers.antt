@@ -25,9 +25,9 @@ pub returns : goal.returns
 unfolding with_rest
 returns c =
     let s = c.args.self.now.rest in
-    let t = c.pop-first.new.self in
-    let popped = c.pop-first.ensures in
+    let t = c.pop_first.new.self in
+    let popped = c.pop_first.ensures in
     record {
-      steps = stepped s t c.pop-first.result popped.lowest popped.rest;
-      goes = firm (fewer s t c.pop-first.result popped.lowest popped.rest) (λ h. search rules);
+      steps = stepped s t c.pop_first.result popped.lowest popped.rest;
+      goes = firm (fewer s t c.pop_first.result popped.lowest popped.rest) (λ h. search rules);
     }
