@@ -14,6 +14,7 @@ pub struct Most {
 // The other policy may be any, a cap too.
 #[derive(Drop)]
 pub struct Cap<P> {
-    most: Most,
+    most: u8,
     inner: P,
+    ghost form: { (1 ≤ most) × (most ≤ 114) },
 }

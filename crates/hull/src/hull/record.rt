@@ -12,7 +12,7 @@ impl Recordable for Hull {
 
     ghost body = { 2 };
 
-    const MARK: [u8; 2] = HULL_MARK;
+    const MARK: [u8; 2] = *b"RH";
 
     const BODY: usize = 2;
 

@@ -12,10 +12,10 @@ returns-then-level-ge-LEVELS c = none_past c.args.self.now c.args.level c.if-lev
 pub returns : goal.returns
 returns c =
     let f = c.args.self.now in let t = c.args.level in
-    first_among_same rank_before _ _ (of_level f t) (between f t) _ c.first-between.ensures
+    first_among_same rank_before _ _ (of_level f t) (between f t) _ c.first_between.ensures
 
-pub first-between-requires : goal.first-between-requires
-first-between-requires c =
+pub first_between-requires : goal.first_between-requires
+first_between-requires c =
     let f = c.args.self.now in
     let near : f.directions * c.args.level ≤ 6 * 18 = mul-le f.directions c.args.level 6 18 f.few (omega arith) in
     (omega arith, omega (arith, near, f.few, f.long))
