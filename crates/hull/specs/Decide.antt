@@ -81,7 +81,7 @@ not_before? f t e s = go (entry f s) refl (ℕ_discrete (level f s) t)
   where
     go : (o : Option Answer) → entry f s ≡ o → Dec (level f s ≡ t) → Dec (NotBefore f t e s)
     go None h l = yes (λ b w. let held = w.holds in let z : ◌≡◌ {A = ℕ} 0 1 = cc in absurd (omega arith))
-    go (Some a) h (no n) = yes (λ b w. absurd (n w.of-level))
+    go (Some a) h (no n) = yes (λ b w. absurd (n w.of_level))
     go (Some a) h (yes l) =
         same?
         (λ p b w. let held = w.holds in let same : a ≡ b = cc in subst (λ (x : Answer). rank_before (record { answer = x; rank = s }) e ≡ false) same p)

@@ -33,7 +33,7 @@ fn strokes(heap: Global, piece: &Piece, table: &[Line], from: usize) -> Result<V
         all.push(Stroke { w, direction, low })?;
         low = low.saturating_add(2);
     }
-    all.sort();
+    all.sort()?;
     Ok(all)
 }
 

@@ -13,10 +13,10 @@ use policy::front::levels::LEVELS;
 
 // Whether drop / length is at most rise / run.
 fn no_steeper(drop: i64, length: i64, rise: i64, run: i64) -> bool
-    requires pos_bound { (neg_ℤ (pos 3000000001) ≤ℤ drop) × (drop ≤ℤ pos 3000000001) }
-    requires pos_bound_2 { (neg_ℤ (pos 3000000001) ≤ℤ rise) × (rise ≤ℤ pos 3000000001) }
-    requires pos_in_bounds { (pos 0 ≤ℤ length) × (length ≤ℤ pos 1162261467) }
-    requires pos_bound_3 { (pos 0 ≤ℤ run) × (run ≤ℤ pos 1162261467) }
+    requires drop_bound { (neg_ℤ (pos 3000000001) ≤ℤ drop) × (drop ≤ℤ pos 3000000001) }
+    requires rise_bound { (neg_ℤ (pos 3000000001) ≤ℤ rise) × (rise ≤ℤ pos 3000000001) }
+    requires length_bound { (pos 0 ≤ℤ length) × (length ≤ℤ pos 1162261467) }
+    requires run_bound { (pos 0 ≤ℤ run) × (run ≤ℤ pos 1162261467) }
     ensures { result ≡ int_le (drop *ℤ run) (rise *ℤ length) }
 {
     drop * run <= rise * length

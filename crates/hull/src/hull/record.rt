@@ -5,7 +5,7 @@ use super::Hull;
 use policy::recordable::Recordable;
 
 // The mark of Hull: a pattern can name a constant of a module, and none of a trait.
-pub const HULL_MARK: [u8; 2] = *b"RH";
+pub const HULL_MARK: [u8; 2] = [b'R', b'H'];
 
 impl Recordable for Hull {
     ghost mark = { codes "RH" };

@@ -9,7 +9,7 @@ pub returns-in-66 : goal.returns-in-66
 returns-in-66 c = found (search rules) (search rules) tt
 
 pub returns-in-86 : goal.returns-in-86
-returns-in-86 c = found (search rules) (search (rules, ints, c.type-inv.bytes)) (search rules)
+returns-in-86 c = found (search rules) (search (rules, ints, c.type_inv.bytes)) (search rules)
 
 pub returns-in-78 : goal.returns-in-78
 returns-in-78 c = found (search rules) (search rules) tt
@@ -21,7 +21,7 @@ pub returns-in-82 : goal.returns-in-82
 returns-in-82 c = found (search rules) (search rules) tt
 
 pub returns-in-82-2 : goal.returns-in-82-2
-returns-in-82-2 c = found (search rules) (search (rules, c.type-inv.bytes)) (search rules)
+returns-in-82-2 c = found (search rules) (search (rules, c.type_inv.bytes)) (search rules)
 
 pub returns-in-len2-up : goal.returns-in-len2-up
 returns-in-len2-up c = unknown (search rules) (elim [

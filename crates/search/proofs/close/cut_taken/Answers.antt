@@ -54,8 +54,8 @@ loop-rank-smaller c = let popped = c.in-Some.ensures in smaller _ _ _ popped.low
 pub loop-rank-preserved : goal.loop-rank-preserved
 loop-rank-preserved c =
     let round = c.args.round.now in let table = c.args.table.now in let low = c.in-Some.ensures.lowest in
-    absurd (popped_some round table c.requires _ _ _ c.loop-rank.invariant _ low.0 _ c.in-default-firsts.not-Some
+    absurd (popped_some round table c.requires _ _ _ c.loop-rank.invariant _ low.0 _ c.in_default-firsts.not-Some
     (first_in_table round.shape.n round.shape.finest round.boxes table c.requires.own.rows _ _ (c.firsts-firsts.ensures _ low.1)))
 
 pub returns : goal.returns
-returns c = turns_end c.args.round.now c.args.table.now c.requires _ _ _ c.loop-rank.invariant c.in-default.ensures.lowest
+returns c = turns_end c.args.round.now c.args.table.now c.requires _ _ _ c.loop-rank.invariant c.in_default.ensures.lowest

@@ -33,5 +33,5 @@ loop-rank-preserved c =
 
 pub unreachable-requires : goal.unreachable-requires
 unreachable-requires c =
-    let done = points_none c.args.n (ranks c.loop-rank.rest) c.in-default.ensures.lowest in
+    let done = points_none c.args.n (ranks c.loop-rank.rest) c.in_default.ensures.lowest in
     omega (arith, done, c.loop-rank.invariant.0, c.loop-rank.invariant.1, c.requires.1.1)

@@ -25,6 +25,6 @@ loop-rank-preserved c =
 
 pub returns : goal.returns
 returns c =
-    let done = points_none c.args.shape.now.n (ranks c.loop-rank.rest) c.in-default.ensures.lowest in
+    let done = points_none c.args.shape.now.n (ranks c.loop-rank.rest) c.in_default.ensures.lowest in
     let few = points_few c.args.shape.now.n (ranks c.args.chosen) c.args.shape.now.few in
     record { value = omega (arith, done, c.loop-rank.invariant); few = omega (arith, done, few, c.loop-rank.invariant) }

@@ -49,9 +49,9 @@ returns-in-Rest c =
     ends _ _ _ _ _ _ c.loop-rest.invariant.0 (true-eqb _ 0 c.loop-rest-test.ensures) c.in-Rest.is in
     record { outcome = out; only = replays_one table bytes; law = keeps_law table bytes (Ok c.in-Rest.search) c.loop-rest.table out }
 
-pub returns-in-default : goal.returns-in-default
-returns-in-default c = record {
-  outcome = cut_off _ _ _ _ _ c.loop-rest.invariant.0 (true-eqb _ 0 c.loop-rest-test.ensures) c.in-default.not-Rest;
+pub returns-in_default : goal.returns-in_default
+returns-in_default c = record {
+  outcome = cut_off _ _ _ _ _ c.loop-rest.invariant.0 (true-eqb _ 0 c.loop-rest-test.ensures) c.in_default.not-Rest;
   only = replays_one c.args.table.now c.args.bytes.now;
   law = tt;
 }

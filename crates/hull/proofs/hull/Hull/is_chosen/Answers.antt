@@ -5,7 +5,7 @@ use Rattle.hull.specs.Optimal.{Yields}
 use Rattle.hull.proofs.Tables.{here_level, here_taken, more_none, more_some}
 use Rattle.hull.specs.Takes.{taken_level}
 use Rattle.hull.proofs.hull.Hull.is_chosen.Goals as goal
-use Rattle.hull.proofs.hull.Hull.is_chosen.Goals.{in-Some+else-not-yields, in-default}
+use Rattle.hull.proofs.hull.Hull.is_chosen.Goals.{in-Some+else-not-yields, in_default}
 
 pub bounds : goal.bounds
 bounds c = omega (arith, taken_level c.args.front.now c.args.j c.requires.taken, c.level-at-end.ensures)
@@ -31,7 +31,7 @@ loop-at-preserved c =
     let P = Yields c.args.self.now.share f c.args.j in
     elim c.match-table-at.branch [
       | in-Some+else-not-yields w ↦ more_some f table c.requires.table at P c.loop-at.invariant w.in-Some.i w.in-Some.is (w.yields.ensures.0 w.if-not-yields.false)
-      | in-default w ↦ more_none f table c.requires.table at P c.loop-at.invariant w.in-default.not-Some
+      | in_default w ↦ more_none f table c.requires.table at P c.loop-at.invariant w.in_default.not-Some
     ]
 
 pub returns-then-not-yields : goal.returns-then-not-yields

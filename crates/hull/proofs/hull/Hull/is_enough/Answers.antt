@@ -6,20 +6,21 @@ use Rattle.hull.specs.Products.{decides_enough}
 use Rattle.hull.specs.Takes.{size_more}
 use Rattle.hull.proofs.hull.Hull.is_enough.Goals as goal
 
-pub run-of-run-requires : goal.run-of-run-requires
-run-of-run-requires c = omega (arith, size_more c.args.front.now c.args.i c.args.j c.requires.taken c.requires.larger)
+pub run_of-run-requires : goal.run_of-run-requires
+run_of-run-requires c = omega (arith, size_more c.args.front.now c.args.i c.args.j c.requires.taken c.requires.larger)
 
-pub no-steeper-requires : goal.no-steeper-requires
-no-steeper-requires c =
+pub no_steeper-requires : goal.no_steeper-requires
+no_steeper-requires c =
     let o = c.over-over.ensures in
-    let l = c.size-of-length.ensures in
-    let r = c.rise-of-rise.ensures in
-    let u = c.run-of-run.ensures in (
-      (omega (arith, ints), omega (arith, ints)),
-      (omega (arith, ints), omega (arith, ints)),
-      (omega (arith, ints), omega (arith, ints)),
-      (omega (arith, ints), omega (arith, ints)),
-    )
+    let l = c.size_of-length.ensures in
+    let r = c.rise_of-rise.ensures in
+    let u = c.run_of-run.ensures in
+    record {
+      drop_bound = (omega (arith, ints), omega (arith, ints));
+      rise_bound = (omega (arith, ints), omega (arith, ints));
+      length_bound = (omega (arith, ints), omega (arith, ints));
+      run_bound = (omega (arith, ints), omega (arith, ints));
+    }
 
 pub returns : goal.returns
 returns c =
@@ -27,11 +28,11 @@ returns c =
     let e = c.args.self.now.share in
     let j = c.args.j in
     let i = c.args.i in
-    decides_enough c.no-steeper.result (value f j -ℤ least f +ℤ margin e f) (value f i -ℤ value f j) (size f j) (size f i - size f j)
-    (to_z w64 (of_z w64 c.over-over.result)) (to_z w64 (of_z w64 c.size-of-length.result))
-    (to_z w64 (of_z w64 c.rise-of-rise.result)) (to_z w64 (of_z w64 c.run-of-run.result))
-    c.no-steeper.ensures
-    (omega (arith, ints, c.over-over.type-inv) ∙ c.over-over.ensures.is)
-    (omega (arith, ints, c.size-of-length.type-inv) ∙ c.size-of-length.ensures.is)
-    (omega (arith, ints, c.rise-of-rise.type-inv) ∙ c.rise-of-rise.ensures.is)
-    (omega (arith, ints, c.run-of-run.type-inv) ∙ c.run-of-run.ensures.is)
+    decides_enough c.no_steeper.result (value f j -ℤ least f +ℤ margin e f) (value f i -ℤ value f j) (size f j) (size f i - size f j)
+    (to_z w64 (of_z w64 c.over-over.result)) (to_z w64 (of_z w64 c.size_of-length.result))
+    (to_z w64 (of_z w64 c.rise_of-rise.result)) (to_z w64 (of_z w64 c.run_of-run.result))
+    c.no_steeper.ensures
+    (omega (arith, ints, c.over-over.type_inv) ∙ c.over-over.ensures.is)
+    (omega (arith, ints, c.size_of-length.type_inv) ∙ c.size_of-length.ensures.is)
+    (omega (arith, ints, c.rise_of-rise.type_inv) ∙ c.rise_of-rise.ensures.is)
+    (omega (arith, ints, c.run_of-run.type_inv) ∙ c.run_of-run.ensures.is)

@@ -4,14 +4,14 @@ use Rattle.std.proofs.lemmas.Int.{ints, to_z-of_z}
 use Rattle.hull.specs.Products.{compared_fits}
 use Rattle.hull.proofs.hull.conditions.no_steeper.Goals as goal
 
-pub overflow-mul-result : goal.overflow-mul-result
-overflow-mul-result c =
+pub overflow_mul-result : goal.overflow_mul-result
+overflow_mul-result c =
     let d = c.ranges.drop in
     let r = c.ranges.run in
     simp to_z-of_z (compared_fits c.args.drop c.args.run (omega (arith, ints)) (omega (arith, ints)) (omega (arith, ints)) (omega (arith, ints)))
 
-pub overflow-mul-result-2 : goal.overflow-mul-result-2
-overflow-mul-result-2 c =
+pub overflow_mul-result-2 : goal.overflow_mul-result-2
+overflow_mul-result-2 c =
     let s = c.ranges.rise in
     let l = c.ranges.length in
     simp to_z-of_z (compared_fits c.args.rise c.args.length (omega (arith, ints)) (omega (arith, ints)) (omega (arith, ints)) (omega (arith, ints)))

@@ -5,10 +5,10 @@ use Rattle.hull.specs.Optimal.{Chord}
 use Rattle.hull.proofs.Tables.{here_level, here_taken, more_none, more_some}
 use Rattle.hull.specs.Takes.{taken_level}
 use Rattle.hull.proofs.hull.conditions.under_chords.Goals as goal
-use Rattle.hull.proofs.hull.conditions.under_chords.Goals.{in-Some+else-not-is-chord, in-default}
+use Rattle.hull.proofs.hull.conditions.under_chords.Goals.{in-Some+else-not-is_chord, in_default}
 
-pub is-chord-requires : goal.is-chord-requires
-is-chord-requires c =
+pub is_chord-requires : goal.is_chord-requires
+is_chord-requires c =
     let f = c.args.front.now in
     let table = c.args.table.now in
     let at = c.loop-at.at in
@@ -29,14 +29,14 @@ loop-at-preserved c =
     let at = c.loop-at.at in
     let P = Chord f c.args.j c.args.i in
     elim c.match-table-at.branch [
-      | in-Some+else-not-is-chord w ↦ more_some f table c.requires.table at P c.loop-at.invariant w.in-Some.s w.in-Some.is (w.is-chord.ensures.0 w.if-not-is-chord.false)
-      | in-default w ↦ more_none f table c.requires.table at P c.loop-at.invariant w.in-default.not-Some
+      | in-Some+else-not-is_chord w ↦ more_some f table c.requires.table at P c.loop-at.invariant w.in-Some.s w.in-Some.is (w.is_chord.ensures.0 w.if-not-is_chord.false)
+      | in_default w ↦ more_none f table c.requires.table at P c.loop-at.invariant w.in_default.not-Some
     ]
 
-pub returns-then-not-is-chord : goal.returns-then-not-is-chord
-returns-then-not-is-chord c = (
+pub returns-then-not-is_chord : goal.returns-then-not-is_chord
+returns-then-not-is_chord c = (
   λ h. absurd (false≢true h),
-  λ a. c.if-not-is-chord.ensures.1
+  λ a. c.if-not-is_chord.ensures.1
       (a c.in-Some.s.rank (here_taken c.args.front.now c.args.table.now c.requires.table c.loop-at.at c.in-Some.s c.in-Some.is)),
 )
 

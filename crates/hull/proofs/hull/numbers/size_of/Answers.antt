@@ -17,6 +17,6 @@ returns c =
     let is : c.pow.result ≡ pos (3 ^ (19 - level f c.args.rank)) = c.pow.ensures ∙ ap (λ (k : ℕ). pos (3 ^ k)) finer in
     let most = cells_at_le (level f c.args.rank) in
     record {
-      is = omega (arith, ints, c.pow.type-inv) ∙ is;
-      high = omega (arith, ints, is, most, c.pow.type-inv);
+      is = omega (arith, ints, c.pow.type_inv) ∙ is;
+      high = omega (arith, ints, is, most, c.pow.type_inv);
     }

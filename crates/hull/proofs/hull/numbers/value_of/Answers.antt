@@ -25,7 +25,7 @@ returns-in-Some-NotFeasible c =
     let read = c.in-Some-NotFeasible.ensures in
     let held : entry f c.args.rank ≡ Some NotFeasible = cc in
     let is : c.past_of.result ≡ value f c.args.rank = c.past_of.ensures ∙ ap (value_in f.readings) (sym held) in
-    record { is = omega (arith, ints, c.past_of.type-inv) ∙ is; low = omega (arith, ints); high = omega (arith, ints) }
+    record { is = omega (arith, ints, c.past_of.type_inv) ∙ is; low = omega (arith, ints); high = omega (arith, ints) }
 
 pub returns-in-None : goal.returns-in-None
 unfolding value

@@ -12,11 +12,11 @@ loop-at-preserved c =
     let f = c.args.front.now in
     let at = c.loop-at.at in
     let table = c.loop-at.table in
-    let new = c.first-of-level.result in (
+    let new = c.first_of_level.result in (
       simp length-set c.loop-at.invariant.0,
       λ t h. ⊎_elim
           (λ same. subst (λ (k : ℕ). FirstOfLevel f k (get_or (set table at new) k None)) (sym same)
-          (subst (FirstOfLevel f at) (sym (get_or-set_same table at new None (omega (arith, c.loop-at.invariant.0)))) c.first-of-level.ensures))
+          (subst (FirstOfLevel f at) (sym (get_or-set_same table at new None (omega (arith, c.loop-at.invariant.0)))) c.first_of_level.ensures))
           (λ other. subst (FirstOfLevel f t) (sym (get_or-set_other table at t new None other)) (c.loop-at.invariant.1 t (omega arith)))
           (cases_eq t at),
     )

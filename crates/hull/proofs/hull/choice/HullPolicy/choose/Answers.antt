@@ -8,11 +8,11 @@ use Rattle.hull.specs.Chosen.{hull_all, hull_conditions, hull_in, hull_out, hull
 use Rattle.hull.proofs.Tables.{here_level, here_taken, none_taken}
 use Rattle.hull.specs.Takes.{taken_rank}
 use Rattle.hull.proofs.hull.choice.HullPolicy.choose.Goals as goal
-use Rattle.hull.proofs.hull.choice.HullPolicy.choose.Goals.{in-Some+then-is-chosen, in-Some+else-is-chosen, in-default}
+use Rattle.hull.proofs.hull.choice.HullPolicy.choose.Goals.{in-Some+then-is_chosen, in-Some+else-is_chosen, in_default}
 
-pub is-chosen-requires : goal.is-chosen-requires
-is-chosen-requires c =
-    let table = c.taken-ranks-table in
+pub is_chosen-requires : goal.is_chosen-requires
+is_chosen-requires c =
+    let table = c.taken_ranks-table in
     record { table = table.ensures; taken = here_taken c.args.front.now table.result table.ensures c.loop-at.at c.in-Some.j c.in-Some.is }
 
 pub loop-at-init : goal.loop-at-init
@@ -23,21 +23,21 @@ loop-at-preserved c =
     let f = c.args.front.now in
     let e = c.args.self.now.share in
     let at = c.loop-at.at in
-    let table = c.taken-ranks-table in
+    let table = c.taken_ranks-table in
     elim c.match-table-at.branch [
-      | in-Some+then-is-chosen w ↦
+      | in-Some+then-is_chosen w ↦
           let j = w.in-Some.j in
           let taken_j = here_taken f table.result table.ensures at j w.in-Some.is in
           ap ranks w.chosen-is ∙ w.insert.ensures.put (taken_rank f j.rank taken_j) ∙ ap (λ (p : Ranks). with p j.rank) c.loop-at.invariant
-          ∙ hull_in e f at j.rank taken_j (here_level f table.result table.ensures at j w.in-Some.is) (w.is-chosen.ensures.0 w.if-is-chosen.true)
-      | in-Some+else-is-chosen w ↦
+          ∙ hull_in e f at j.rank taken_j (here_level f table.result table.ensures at j w.in-Some.is) (w.is_chosen.ensures.0 w.if-is_chosen.true)
+      | in-Some+else-is_chosen w ↦
           let j = w.in-Some.j in
           ap ranks w.chosen-is ∙ c.loop-at.invariant
           ∙ hull_out e f at j.rank (here_taken f table.result table.ensures at j w.in-Some.is) (here_level f table.result table.ensures at j w.in-Some.is)
-          (λ h. false≢true (w.if-is-chosen.ensures.1 h))
-      | in-default w ↦
+          (λ h. false≢true (w.if-is_chosen.ensures.1 h))
+      | in_default w ↦
           ap ranks w.chosen-is ∙ c.loop-at.invariant
-          ∙ level_out (hull_ranks e f) f at (λ k h l. none_taken f table.result table.ensures at w.in-default.not-Some k ((hull_conditions e f k).0 h).taken l)
+          ∙ level_out (hull_ranks e f) f at (λ k h l. none_taken f table.result table.ensures at w.in_default.not-Some k ((hull_conditions e f k).0 h).taken l)
     ]
 
 pub returns : goal.returns
