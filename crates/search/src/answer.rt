@@ -29,7 +29,8 @@ impl Round {
         requires within { point < self.now.points }
         ensures { table.new ≡ slice_set table.old (self.now.boxes + point) (with_answer (row_at table.old (self.now.boxes + point)) answer) }
     {
-        table[self.boxes + point].entry = Entry::Answered(answer);
+        let row = self.boxes + point;
+        table[row].entry = Entry::Answered(answer);
     }
 
     // As `answer`, where the table is known to be the round's own and the answer to be allowed.

@@ -8,7 +8,7 @@ use Rattle.search.proofs.begin.begin.Goals as goal
 pub returns : goal.returns
 returns c =
     let n = c.args.n in let finest = c.args.finest in
-    let shape = shape_of n finest c.in-ok-shape.shape c.in-ok-shape.ensures in
+    let shape = shape_of n finest c.in_ok-shape.shape c.in_ok-shape.ensures in
     let begun : Begins n finest c.args.table.now c.args.answer (Ok c.start.result) c.start.new.table =
-    inr (shape.directions, inr (shape.levels, inr (omega (arith, c.if-table-eq0.false), inr (subst T c.if-not-is-allowed.ensures tt, (begun_of n finest c.in-ok-shape.shape c.start.result shape c.start.ensures.begun, c.start.ensures.written))))) in
+    inr (shape.directions, inr (shape.levels, inr (omega (arith, c.if-table-eq0.false), inr (subst T c.if-not-is_allowed.ensures tt, (begun_of n finest c.in_ok-shape.shape c.start.result shape c.start.ensures.begun, c.start.ensures.written))))) in
     record { outcome = begun; runs = every_run n finest c.args.table.now c.start.new.table c.args.answer c.start.result begun }

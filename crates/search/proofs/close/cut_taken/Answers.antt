@@ -28,13 +28,13 @@ smaller s t r low h is = omega (arith, ap size is, size_without (ranks s) r h lo
 pub loop-rank-init : goal.loop-rank-init
 loop-rank-init c = turns_start c.args.round.now c.args.table.now c.requires
 
-pub cut-box-requires : goal.cut-box-requires
-cut-box-requires c =
+pub cut_box-requires : goal.cut_box-requires
+cut_box-requires c =
     let round = c.args.round.now in let table = c.args.table.now in let low = c.in-Some.ensures.lowest in
     popped_taking round table c.requires _ _ _ c.loop-rank.invariant _ low.0 _ (first_box round table c.requires _ _ _ c.in-Some-firsts.is (c.firsts-firsts.ensures _ low.1))
 
-pub overflow-add-next : goal.overflow-add-next
-overflow-add-next c =
+pub overflow_add-next : goal.overflow_add-next
+overflow_add-next c =
     let round = c.args.round.now in let table = c.args.table.now in let low = c.in-Some.ensures.lowest in
     let fits = popped_room round table c.requires _ _ _ c.loop-rank.invariant _ low.0 _ (first_box round table c.requires _ _ _ c.in-Some-firsts.is (c.firsts-firsts.ensures _ low.1)) in
     omega arith
@@ -46,7 +46,7 @@ pub loop-rank-preserved-in-Some-firsts : goal.loop-rank-preserved-in-Some-firsts
 loop-rank-preserved-in-Some-firsts c =
     let round = c.args.round.now in let table = c.args.table.now in let popped = c.in-Some.ensures in let low = popped.lowest in
     turns_more round table c.requires _ _ _ c.loop-rank.invariant _ low.0 _ (first_box round table c.requires _ _ _ c.in-Some-firsts.is (c.firsts-firsts.ensures _ low.1))
-    _ _ low.1 popped.rest c.cut-box.ensures
+    _ _ low.1 popped.rest c.cut_box.ensures
 
 pub loop-rank-smaller : goal.loop-rank-smaller
 loop-rank-smaller c = let popped = c.in-Some.ensures in smaller _ _ _ popped.lowest.0 popped.lowest.1 popped.rest

@@ -9,8 +9,8 @@ use Rattle.search.proofs.cutting.cut_box.Goals as goal
 same_front : (n : ℕ) (table : List Row) (j base m : ℕ) (xs : List LongSide) → InCutOrder n table j base (take m xs) → InCutOrder n table j base (take (m - 0) xs)
 same_front n table j base m xs h = subst (λ (k : ℕ). InCutOrder n table j base (take k xs)) (omega arith) h
 
-pub cut-along-requires : goal.cut-along-requires
-cut-along-requires c = sides_ready _ _ _ _ _ c.requires _ (same_front _ _ _ _ (c.args.n - c.args.r % c.args.n) c.cut-order-sides.result c.cut-order-sides.ensures)
+pub cut_along-requires : goal.cut_along-requires
+cut_along-requires c = sides_ready _ _ _ _ _ c.requires _ (same_front _ _ _ _ (c.args.n - c.args.r % c.args.n) c.cut_order-sides.result c.cut_order-sides.ensures)
 
 pub returns : goal.returns
-returns c = box_cut _ _ _ _ _ c.requires _ (same_front _ _ _ _ (c.args.n - c.args.r % c.args.n) c.cut-order-sides.result c.cut-order-sides.ensures) _ c.cut-along.ensures
+returns c = box_cut _ _ _ _ _ c.requires _ (same_front _ _ _ _ (c.args.n - c.args.r % c.args.n) c.cut_order-sides.result c.cut_order-sides.ensures) _ c.cut_along.ensures

@@ -18,14 +18,14 @@ returns-then-point-start c =
 pub loop-rank-smaller : goal.loop-rank-smaller
 loop-rank-smaller c =
     let popped = c.in-Some.ensures in
-    let next = points_next c.args.n (ranks c.loop-rank.rest) (ranks c.pop-first.new.self) c.in-Some.rank popped.lowest.0 popped.lowest.1 popped.rest in
+    let next = points_next c.args.n (ranks c.loop-rank.rest) (ranks c.pop_first.new.self) c.in-Some.rank popped.lowest.0 popped.lowest.1 popped.rest in
     omega (arith, next, mod-lt c.in-Some.rank c.requires.0)
 
 pub loop-rank-preserved : goal.loop-rank-preserved
 loop-rank-preserved c =
     let popped = c.in-Some.ensures in
     let inv = c.loop-rank.invariant in
-    let next = points_next c.args.n (ranks c.loop-rank.rest) (ranks c.pop-first.new.self) c.in-Some.rank popped.lowest.0 popped.lowest.1 popped.rest in (
+    let next = points_next c.args.n (ranks c.loop-rank.rest) (ranks c.pop_first.new.self) c.in-Some.rank popped.lowest.0 popped.lowest.1 popped.rest in (
       omega (arith, next, inv.0),
       omega (arith, inv.1, c.if-point-start.false),
       subst (Tail (ranks c.args.chosen)) (sym popped.rest) (tail_less c.args.n (ranks c.loop-rank.rest) c.in-Some.rank popped.lowest.0 (ranks c.args.chosen) inv.2),

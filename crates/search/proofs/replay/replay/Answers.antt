@@ -13,25 +13,25 @@ use Rattle.search.proofs.replay.replay.Goals as goal
 pub loop-rest-init : goal.loop-rest-init
 loop-rest-init c = (([], refl, nothing), tt)
 
-pub overflow-sub-place : goal.overflow-sub-place
-overflow-sub-place c = so_far_fits _ _ _ _ _ c.loop-rest.invariant.0
+pub overflow_sub-place : goal.overflow_sub-place
+overflow_sub-place c = so_far_fits _ _ _ _ _ c.loop-rest.invariant.0
 
 pub loop-rest-preserved : goal.loop-rest-preserved
 loop-rest-preserved c =
-    (so_far_more _ _ _ _ _ _ _ _ c.in-Ok.item c.loop-rest.invariant.0 c.in-Ok.ensures.reads.0 c.in-ok-due.ensures.turns, c.in-ok-due.ensures.own)
+    (so_far_more _ _ _ _ _ _ _ _ c.in-Ok.item c.loop-rest.invariant.0 c.in-Ok.ensures.reads.0 c.in_ok-due-in-Ok.ensures.turns, c.in_ok-due-in-Ok.ensures.own)
 
 pub turn-requires : goal.turn-requires
 turn-requires c = c.loop-rest.invariant.1
 
-pub returns-in-err-due : goal.returns-in-err-due
-returns-in-err-due c =
-    let table = c.args.table.now in let bytes = c.args.bytes.now in let e = c.in-err-due.field-0.0 in let after = c.turn.new.table in
+pub returns-in_err-due-in-Ok : goal.returns-in_err-due-in-Ok
+returns-in_err-due-in-Ok c =
+    let table = c.args.table.now in let bytes = c.args.bytes.now in let e = c.in_err-due-in-Ok.field-0.0 in let after = c.turn.new.table in
     let read = c.in-Ok.ensures.reads in
-    let found = err_from_is_err_and c.from-residual.result c.from-residual.ensures.1 in
-    let is : c.from-residual.result ≡ Err e = cc in
-    let out : Replays table bytes c.from-residual.result after =
-    subst (λ (r : Result Rest RefusedAt). Replays table bytes r after) (sym is) (halts _ _ _ _ _ _ _ e c.in-Ok.item c.loop-rest.invariant.0 read.0 read.1 c.in-err-due.ensures.turns) in
-    record { outcome = out; only = replays_one table bytes; law = keeps_law table bytes c.from-residual.result after out }
+    let found = err_from_is_err_and c.from_residual.result c.from_residual.ensures.1 in
+    let is : c.from_residual.result ≡ Err e = cc in
+    let out : Replays table bytes c.from_residual.result after =
+    subst (λ (r : Result Rest RefusedAt). Replays table bytes r after) (sym is) (halts _ _ _ _ _ _ _ e c.in-Ok.item c.loop-rest.invariant.0 read.0 read.1 c.in_err-due-in-Ok.ensures.turns) in
+    record { outcome = out; only = replays_one table bytes; law = keeps_law table bytes c.from_residual.result after out }
 
 pub returns-in-Err : goal.returns-in-Err
 returns-in-Err c =

@@ -5,9 +5,9 @@ use Rattle.search.specs.Turns.Turn.{centre}
 use Rattle.search.proofs.Turning.{answer_among, begin_refusal, own_begun}
 use Rattle.search.proofs.replay.turn.answer_middle.Goals as goal
 
-pub returns-then-not-is-allowed : goal.returns-then-not-is-allowed
-returns-then-not-is-allowed c =
-    record { turns = (refl, inr (answer_among c.args.answer, bad_reading (λ t. subst T (sym c.if-not-is-allowed.ensures) t))); own = tt }
+pub returns-then-not-is_allowed : goal.returns-then-not-is_allowed
+returns-then-not-is_allowed c =
+    record { turns = (refl, inr (answer_among c.args.answer, bad_reading (λ t. subst T (sym c.if-not-is_allowed.ensures) t))); own = tt }
 
 pub returns-in-Ok : goal.returns-in-Ok
 returns-in-Ok c =
@@ -20,7 +20,7 @@ returns-in-Err c =
     record {
       turns = (
         begin_refusal c.args.n c.args.finest c.args.table.now c.args.answer c.in-Err.why _ refused,
-        inr (answer_among c.args.answer, no_begin (subst T c.if-not-is-allowed.ensures tt) refused),
+        inr (answer_among c.args.answer, no_begin (subst T c.if-not-is_allowed.ensures tt) refused),
       );
       own = tt;
     }

@@ -15,18 +15,18 @@ returns-in-Start-Begin c =
 
 pub returns-in-Rest-Round : goal.returns-in-Rest-Round
 returns-in-Rest-Round c =
-    let opened = c.open-round in
+    let opened = c.open_round in
     record {
       turns = subst₂ (λ (d : Due) (i : Item). Turns c.args.place d c.args.table.now i opened.result opened.new.table)
-          (sym c.rest-of-in-Rest-Round.ensures) (sym c.in-Rest-Round.is-1) (opened.ensures.turns _ plain);
+          (sym c.rest_of-in-Rest-Round.ensures) (sym c.in-Rest-Round.is-1) (opened.ensures.turns _ plain);
       own = opened.ensures.own;
     }
 
 pub returns-in-Capped-Round : goal.returns-in-Capped-Round
 returns-in-Capped-Round c =
-    let opened = c.open-round-in-Capped-Round in
+    let opened = c.open_round-in-Capped-Round in
     record {
       turns = subst₂ (λ (d : Due) (i : Item). Turns c.args.place d c.args.table.now i opened.result opened.new.table)
-          (sym c.capped-of.ensures) (sym c.in-Capped-Round.is-1) (opened.ensures.turns _ with_cap);
+          (sym c.capped_of.ensures) (sym c.in-Capped-Round.is-1) (opened.ensures.turns _ with_cap);
       own = opened.ensures.own;
     }

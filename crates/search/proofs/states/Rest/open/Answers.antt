@@ -7,10 +7,10 @@ use Rattle.search.proofs.states.Rest.open.Goals as goal
 pub returns : goal.returns
 returns g c =
     let policy = c.args.policy.now in let meaning = g.P.Policy.chosen policy in
-    let outcome : Opens meaning c.args.self c.args.table.now c.open-in.result c.open-in.new.table =
-    inr (c.owns.ensures.0 c.if-not-owns.false, c.open-in.ensures) in
+    let outcome : Opens meaning c.args.self c.args.table.now c.open_in.result c.open_in.new.table =
+    inr (c.owns.ensures.0 c.if-not-owns.false, c.open_in.ensures) in
     record {
       outcome = outcome;
-      located = located_cells meaning c.args.self c.args.table.now c.open-in.new.table c.open-in.result
+      located = located_cells meaning c.args.self c.args.table.now c.open_in.new.table c.open_in.result
           (λ front of. (g.met.P.Policy.sound policy front, g.met.P.Policy.reaches policy front)) outcome;
     }

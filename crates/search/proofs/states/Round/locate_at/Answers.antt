@@ -6,36 +6,36 @@ use Rattle.search.proofs.states.Round.locate_at.Goals as goal
 pub unreachable-requires : goal.unreachable-requires
 unreachable-requires c =
     let q = c.args.self.now in let s = q.shape in
-    let chosen = c.rank-at-rank.ensures.chosen in
-    no_first s.n s.finest q.boxes c.args.table.now c.rank-at-rank.result.0 _ c.requires.own.own (c.requires.found _ chosen.0) (c.requires.own.boxes _ (subst T (sym chosen.1) tt)) (search rules)
+    let chosen = c.rank_at-rank.ensures.chosen in
+    no_first s.n s.finest q.boxes c.args.table.now c.rank_at-rank.result.0 _ c.requires.own.own (c.requires.found _ chosen.0) (c.requires.own.boxes _ (subst T (sym chosen.1) tt)) (search rules)
 
-pub long-side-d-requires : goal.long-side-d-requires
-long-side-d-requires c =
-    let q = c.args.self.now in let s = q.shape in let t = c.args.table.now in let r = c.rank-at-rank.result.0 in
+pub long_side-d-requires : goal.long_side-d-requires
+long_side-d-requires c =
+    let q = c.args.self.now in let s = q.shape in let t = c.args.table.now in let r = c.rank_at-rank.result.0 in
     let first = at_first s.n s.finest q.boxes t r _ c.in-Some.first
-    (c.requires.found r c.rank-at-rank.ensures.chosen.0) c.in-Some.is in (
+    (c.requires.found r c.rank_at-rank.ensures.chosen.0) c.in-Some.is in (
       s.few,
       (
         ap (λ (x : ℕ). x / s.n) (sym first.1.0.box.ranked),
-        side_number s.n s.finest q.boxes t r c.in-Some.first.row c.rank-at-rank.result.1 s.some s.few c.requires.own.own first c.rank-at-rank.ensures.among,
+        side_number s.n s.finest q.boxes t r c.in-Some.first.row c.rank_at-rank.result.1 s.some s.few c.requires.own.own first c.rank_at-rank.ensures.among,
       ),
     )
 
-pub write-cell-requires : goal.write-cell-requires
-write-cell-requires c =
-    let q = c.args.self.now in let s = q.shape in let t = c.args.table.now in let r = c.rank-at-rank.result.0 in
+pub write_cell-requires : goal.write_cell-requires
+write_cell-requires c =
+    let q = c.args.self.now in let s = q.shape in let t = c.args.table.now in let r = c.rank_at-rank.result.0 in
     let first = at_first s.n s.finest q.boxes t r _ c.in-Some.first
-    (c.requires.found r c.rank-at-rank.ensures.chosen.0) c.in-Some.is in
+    (c.requires.found r c.rank_at-rank.ensures.chosen.0) c.in-Some.is in
     record {
       intervals = λ e l. ((c.requires.own.own.each c.in-Some.first.row first.1.0.box.within).directions e (omega (arith, s.few))).interval;
-      side = coarse_side s.n s.finest q.boxes t r c.in-Some.first.row c.long-side-d.result s.some s.fine first c.long-side-d.ensures.0;
+      side = coarse_side s.n s.finest q.boxes t r c.in-Some.first.row c.long_side-d.result s.some s.fine first c.long_side-d.ensures.0;
       room = (s.few, c.if-cells-n.false);
     }
 
 pub returns : goal.returns
 returns c =
-    let q = c.args.self.now in let s = q.shape in let t = c.args.table.now in let r = c.rank-at-rank.result.0 in
-    let chosen = c.rank-at-rank.ensures.chosen in
+    let q = c.args.self.now in let s = q.shape in let t = c.args.table.now in let r = c.rank_at-rank.result.0 in
+    let chosen = c.rank_at-rank.ensures.chosen in
     let first = at_first s.n s.finest q.boxes t r _ c.in-Some.first
     (c.requires.found r chosen.0) c.in-Some.is in
     inr (
@@ -44,9 +44,9 @@ returns c =
         c.if-cells-n.false,
         (
           refl,
-          located_in q t c.args.point r c.in-Some.first.row c.rank-at-rank.result.1 c.long-side-d.result c.args.cells.now c.write-cell.new.cells
-              (subst T (sym chosen.1) tt) first c.rank-at-rank.ensures.number c.long-side-d.ensures.0 c.long-side-d.ensures.1
-              c.write-cell.ensures.cell c.write-cell.ensures.same c.write-cell.ensures.after,
+          located_in q t c.args.point r c.in-Some.first.row c.rank_at-rank.result.1 c.long_side-d.result c.args.cells.now c.write_cell.new.cells
+              (subst T (sym chosen.1) tt) first c.rank_at-rank.ensures.number c.long_side-d.ensures.0 c.long_side-d.ensures.1
+              c.write_cell.ensures.cell c.write_cell.ensures.same c.write_cell.ensures.after,
         ),
       ),
     )
