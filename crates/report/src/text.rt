@@ -81,7 +81,7 @@ impl fmt::Display for Sides {
 }
 
 // Adds the first line: directions, finest level, closed rounds, boxes.
-fn push_head(out: &mut String, rest: &Rest) -> fmt::Result
+fn push_head(out: &mut String, rest: &Rest) -> Result<(), AllocError>
     ensures { Adds out.old result (head_text rest.now) out.new }
 {
     let shape = rest.shape();
@@ -96,7 +96,7 @@ fn push_head(out: &mut String, rest: &Rest) -> fmt::Result
 }
 
 // Adds the line of a box: its row, its reading or a dash, its sides.
-fn push_box(out: &mut String, shape: Shape, j: usize, row: &Row) -> fmt::Result
+fn push_box(out: &mut String, shape: Shape, j: usize, row: &Row) -> Result<(), AllocError>
     requires { IsBox shape.n shape.finest row.now }
     ensures { Adds out.old result (box_text shape.n j row.now) out.new }
 {
@@ -109,7 +109,7 @@ fn push_box(out: &mut String, shape: Shape, j: usize, row: &Row) -> fmt::Result
 }
 
 // Adds the lines of the boxes.
-fn push_boxes(out: &mut String, shape: Shape, table: &[Row], boxes: usize) -> fmt::Result
+fn push_boxes(out: &mut String, shape: Shape, table: &[Row], boxes: usize) -> Result<(), AllocError>
     requires { Own shape.n shape.finest boxes table.now }
     ensures { Adds out.old result (boxes_text shape.n table.now boxes) out.new }
 {
@@ -120,7 +120,7 @@ fn push_boxes(out: &mut String, shape: Shape, table: &[Row], boxes: usize) -> fm
 }
 
 // Adds the last line: the row of the best box, or a dash.
-fn push_best(out: &mut String, best: Option<(usize, i32)>) -> fmt::Result
+fn push_best(out: &mut String, best: Option<(usize, i32)>) -> Result<(), AllocError>
     ensures { Adds out.old result (best_text best) out.new }
 {
     match best {

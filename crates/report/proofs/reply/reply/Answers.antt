@@ -17,15 +17,15 @@ returns-in-Err c =
         subst (λ (row : Row). Replays (replicate 1024 row) c.args.input.now (Err refused) c.replay.new.table) c.whole-table.ensures c.in-Err.ensures.outcome,
         e ∙ ap (λ (k : ℕ). refusal_text k refused.place) c.number-in-Err.ensures.value,
       ),
-    )) c.refusal-text_in-Err.ensures
+    )) c.refusal_text-in-Err.ensures
 
-pub returns-in-Ok-search-text : goal.returns-in-Ok-search-text
-returns-in-Ok-search-text c = inr (
+pub returns-in-Ok-search_text : goal.returns-in-Ok-search_text
+returns-in-Ok-search_text c = inr (
   c.if-input-gt-LONGEST.false,
   (
     Ok c.in-Ok.rest,
     c.replay.new.table,
     subst (λ (row : Row). Replays (replicate 1024 row) c.args.input.now (Ok c.in-Ok.rest) c.replay.new.table) c.whole-table.ensures c.in-Ok.ensures.outcome,
-    c.in-Ok-search-text.ensures,
+    c.in-Ok-search_text.ensures,
   ),
 )

@@ -5,5 +5,5 @@ use Rattle.tune.proofs.instrument.square.Goals as goal
 
 pub returns : goal.returns
 returns c =
-    let d = c.abs-diff-distance.result in
+    let d = c.abs_diff-distance.result in
     mul-le d d 728 728 (omega arith) (omega arith)
