@@ -1,8 +1,8 @@
 -- The laws of the count of cells of an interval, and that a third of an interval is one.
-use Rattle.std.proofs.Common.{◌≡◌, ℕ, suc, ◌+◌, ◌-◌, ◌*◌, ◌/◌, ◌%◌, ◌^◌, ◌<◌, ◌≤◌, sym, refl, ap, ◌∙◌, subst, mul_assoc, mul_comm, add-mul, arith, lit<}
+use Rattle.std.proofs.Common.{◌≡◌, ℕ, suc, ◌+◌, ◌-◌, ◌*◌, ◌/◌, ◌%◌, ◌^◌, ◌<◌, ◌≤◌, sym, ap, ◌∙◌, subst, mul_assoc, mul_comm, add-mul, arith, lit<}
 use native.Mathlib.Nat.{pow-le-pow_right, one-le-pow, pow-succ', mul-mod_left, div-add-mod}
 use Rattle.std.proofs.lemmas.Nat.{mul-le}
-use Rattle.grid.specs.Grid.{cells, cells_at, IsInterval}
+use Rattle.grid.specs.Grid.{cells_at, IsInterval}
 
 pub cells_at_pos : (t : ℕ) → 1 ≤ cells_at t
 cells_at_pos t = one-le-pow (19 - t) 3 (lit< tt)

@@ -1,5 +1,5 @@
 -- The first among those that something holds of: one more, and the first of two.
-use Rattle.std.proofs.Common.{◌≡◌, ℕ, zero, suc, ◌<◌, Bool, false, ◌⊎◌, List, [], ◌∷◌, length, get_or, Some, None, Option, sym, refl, ap, ◌∙◌, subst, inl, inr, ⊎_elim, arith, lit<}
+use Rattle.std.proofs.Common.{◌≡◌, ℕ, zero, suc, Bool, false, ◌⊎◌, [], ◌∷◌, get_or, Some, None, Option, sym, refl, ap, subst, inl, inr, ⊎_elim, arith, lit<}
 use Rattle.std.specs.Cmp.{IsStrictWeakOrder}
 use Rattle.order.specs.First.{IsFirst, FirstAmong, HeldOr}
 

@@ -1,5 +1,5 @@
 -- The first entry of a level is its first rank by answer and number.
-use Rattle.std.proofs.Common.{◌≡◌, ℕ, ◌+◌, ◌-◌, ◌*◌, ◌/◌, ◌%◌, ◌<◌, ◌≤◌, Bool, true, false, List, length, get_or, take, drop, Some, None, Option, sym, refl, ap, ◌∙◌, ap₂, ⊎_elim, add-zero, mul_comm, arith}
+use Rattle.std.proofs.Common.{◌≡◌, ℕ, ◌+◌, ◌-◌, ◌*◌, ◌/◌, ◌<◌, ◌≤◌, true, false, List, length, get_or, take, drop, Some, None, Option, sym, ap, ◌∙◌, ap₂, ⊎_elim, add-zero, mul_comm, arith}
 use native.Mathlib.Nat.{mul-div-le, lt-div-mul-add, mul-add-div, div-eq_of_lt}
 use Rattle.std.proofs.lemmas.Nat.{mul-le}
 use Rattle.std.proofs.lemmas.List.Edits.{length-between, get_or-between}
@@ -9,7 +9,7 @@ use Rattle.order.specs.First.{FirstAmong, IsFirst}
 use Rattle.order.specs.Records.{rank_before}
 use Rattle.order.specs.declared.answer.Answer.{Answer}
 use Rattle.order.specs.declared.records.RankEntry.{RankEntry}
-use Rattle.policy.specs.Levels.{entry, level, FilledAt, FilledBetween, FirstOfLevel}
+use Rattle.policy.specs.Levels.{FilledAt, FilledBetween}
 use Rattle.policy.specs.declared.front.Front.{Front}
 
 -- a rank of level t is one from n t up to n t + n

@@ -1,5 +1,5 @@
 -- The m lowest of some ranks keep the two rules where those ranks do.
-use Rattle.std.specs.Prelude.{◌≡◌, ℕ, ◌/◌, ◌≤◌, true}
+use Rattle.std.specs.Prelude.{ℕ, ◌/◌, ◌≤◌}
 use Rattle.std.proofs.Common.{arith}
 use Rattle.std.proofs.lemmas.Bool.{and_parts}
 use Rattle.ranks.specs.Ranks.{Ranks, lowest_of}

@@ -1,5 +1,5 @@
 -- Where the entries of a front are empty, and the level of a rank.
-use Rattle.std.specs.Prelude.{◌≡◌, ℕ, ◌*◌, ◌/◌, ◌<◌, ◌≤◌, false, is_some}
+use Rattle.std.specs.Prelude.{◌≡◌, ℕ, ◌/◌, ◌<◌, ◌≤◌, false, is_some}
 use Rattle.std.proofs.Common.{ap, le-div_iff_mul-le, div-mul-le_self, arith}
 use Rattle.policy.specs.Levels.{filled}
 use Rattle.policy.specs.declared.front.Front.{Front}

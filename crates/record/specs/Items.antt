@@ -2,7 +2,6 @@
 use Rattle.std.specs.Prelude.{ℕ, ◌/◌, ◌%◌, ◌<◌, List, [], ◌∷◌, ◌++◌, codes, FitsSigned}
 use Rattle.std.specs.Int.{w32}
 use Rattle.std.proofs.Common.{of_z}
-use Rattle.order.specs.declared.answer.Answer.{Answer}
 use Rattle.order.specs.declared.answer.Answer.TheVariants as answer
 use Rattle.hull.specs.contracts.hull.record.HullRecordable.TheImpl.{ghosts as hull}
 use Rattle.policy.specs.contracts.recordable.EveryRecordable.TheImpl.{ghosts as every}
@@ -10,7 +9,6 @@ use Rattle.record.specs.declared.item.Item.{Item}
 use Rattle.record.specs.declared.item.Item.TheVariants as item
 use Rattle.record.specs.declared.item.Mark.{Mark}
 use Rattle.record.specs.declared.item.Mark.TheVariants as mark
-use Rattle.record.specs.declared.item.Named.{Named}
 use Rattle.record.specs.declared.item.Named.TheVariants as named
 
 -- the two bytes of a mark; those of policies are their own

@@ -1,26 +1,23 @@
 -- One item more after those with which the record of a run begins.
-use Rattle.std.proofs.Common.{◌≡◌, ℕ, ◌+◌, ◌<◌, List, [], ◌∷◌, ◌++◌, map, length, Some, None, Ok, Option, sym, refl, ap, ◌∙◌, subst₂, append_assoc, arith, length-append}
+use Rattle.std.proofs.Common.{◌≡◌, ℕ, ◌+◌, List, [], ◌∷◌, ◌++◌, map, length, Some, None, Ok, sym, refl, ap, ◌∙◌, subst₂, append_assoc, arith, length-append}
 use Rattle.std.proofs.lemmas.List.{map-append}
 use Rattle.order.specs.declared.answer.Answer.{Answer}
-use Rattle.policy.specs.declared.cap.Most.{Most}
 use Rattle.record.specs.declared.item.Item.{Item}
 use Rattle.record.specs.declared.item.Item.TheVariants as item
-use Rattle.record.specs.declared.item.Named.{Named}
 use Rattle.table.specs.declared.rows.Row.{Row}
-use Rattle.search.specs.Calls.{Answers, Opens}
+use Rattle.search.specs.Calls.{Answers}
 use Rattle.search.specs.Replays.{Starts}
 use Rattle.search.specs.Replays.Starts.{capped, nothing, playing, rested, shaped}
-use Rattle.search.specs.Tales.{Makes, Plays, Tale, Told, cap_items, items_of, meaning_of, round_items, under}
+use Rattle.search.specs.Tales.{Plays, Tale, Told, cap_items, items_of, round_items}
 use Rattle.search.specs.Tales.AnsweredInOrder.{more, none}
 use Rattle.search.specs.Tales.Tale.{◌then◌}
-use Rattle.search.specs.Turns.{Ready, Turn, cap_number}
+use Rattle.search.specs.Turns.{Turn}
 use Rattle.search.specs.Turns.Ready.{plain, with_cap}
 use Rattle.search.specs.Turns.Turn.{begins, caps, centre, last, opens, point}
 use Rattle.search.specs.declared.replay.due.Due.{Due}
 use Rattle.search.specs.declared.replay.due.Due.TheVariants as due
 use Rattle.search.specs.declared.states.Rest.{Rest}
 use Rattle.search.specs.declared.states.Round.{Round}
-use Rattle.search.proofs.Turning.{cap_makes}
 
 -- a round as told so far, with one answer more
 abbrev pub grown : Told → Answer → Told

@@ -1,5 +1,5 @@
 -- The first of the boxes by their answers is the best.
-use Rattle.std.proofs.Common.{◌≡◌, ℕ, ◌<◌, true, false, List, length, get_or, ℤ, Some, sym, refl, ap, ◌∙◌, ap₂, ⊎_elim, arith}
+use Rattle.std.proofs.Common.{◌≡◌, ℕ, ◌<◌, true, false, List, length, ℤ, Some, sym, refl, ap, ◌∙◌, ap₂, ⊎_elim, arith}
 use Rattle.std.proofs.lemmas.Bool.{and_left, and_right, cases_lt, le-ltb, not_from_true, or_from, true≢false}
 use Rattle.order.specs.Answers.{answer_before}
 use Rattle.order.specs.First.{FirstAmong, IsFirst}

@@ -1,10 +1,10 @@
 -- One more row cleared.
-use Rattle.std.proofs.Common.{◌≡◌, ℕ, ◌+◌, ◌<◌, ◌≤◌, ◌⊎◌, List, length, set, ◌∙◌, inl, inr, arith}
+use Rattle.std.proofs.Common.{ℕ, ◌+◌, ◌<◌, ◌≤◌, List, length, set, ◌∙◌, inl, inr, arith}
 use Rattle.std.proofs.lemmas.List.{length-set, get_or-set_same, get_or-set_other}
 use Rattle.std.proofs.lemmas.Bool.{cases_eq}
 use Rattle.table.specs.declared.rows.Row.{Row}
 use Rattle.table.specs.declared.rows.Entry.TheVariants.{Waiting}
-use Rattle.table.specs.Rows.{row_at, whole_grid}
+use Rattle.table.specs.Rows.{whole_grid}
 use Rattle.search.specs.Calls.{Cleared}
 
 pub clear_more : (low k : ℕ) (t a : List Row) → low ≤ k → k < length a → Cleared low k t a → Cleared low (k + 1) t (set a k (whole_grid Waiting))

@@ -1,20 +1,19 @@
 -- What closing makes of the boxes: the parts of each box, which are boxes too, and their middles.
-use Rattle.std.proofs.Common.{◌≡◌, ℕ, ◌+◌, ◌-◌, ◌/◌, ◌<◌, ◌≤◌, false, T, ◌⊎◌, List, length, sym, refl, ap, ◌∙◌, subst, inl, inr, arith}
-use Rattle.ranks.specs.Ranks.{ranks}
-use Rattle.table.specs.Boxes.{First, Own}
+use Rattle.std.proofs.Common.{◌≡◌, ℕ, ◌+◌, ◌-◌, ◌/◌, ◌<◌, ◌≤◌, false, T, List, length, sym, refl, ap, ◌∙◌, subst, inl, inr, arith}
+use Rattle.table.specs.Boxes.{Own}
 use Rattle.table.specs.Entries.{waiting}
 use Rattle.table.specs.Rows.{IsMiddle, LiesIn, rank, row_at}
 use Rattle.table.specs.declared.rows.Row.{Row}
 use Rattle.table.proofs.Chains.{Strict}
 use Rattle.table.proofs.Orders.{by_answer}
-use Rattle.table.proofs.Sums.{less, no_is, same, test}
+use Rattle.table.proofs.Sums.{less, no_is}
 use Rattle.search.specs.Calls.{CutAll, NoneWaits, OwnRound}
 use Rattle.search.specs.Points.{IsPoint, Located, Side, Taken, cut_before, point_at, w_of}
 use Rattle.search.specs.declared.states.Round.{Round}
 use Rattle.search.proofs.Cuts.{covered, given_given, given_middle, kept_given, kept_middle}
-use Rattle.search.proofs.Firsts.{box_level, first_unique}
+use Rattle.search.proofs.Firsts.{box_level}
 use Rattle.search.proofs.Pieces.{Piece, given_piece, kept_piece, piece_box, piece_wider, stays}
-use Rattle.search.proofs.Places.{box_taken, point_bound, point_of, taken?}
+use Rattle.search.proofs.Places.{point_bound, point_of, taken?}
 
 module _ (round : Round) (table after : List Row) (own : OwnRound round table) (cut : CutAll round table after) where
   abbrev n : ℕ

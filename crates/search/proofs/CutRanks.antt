@@ -14,7 +14,6 @@ use Rattle.search.specs.Points.{Side, low, high, point_at, Taken, IsPoint, w_of,
 use Rattle.search.specs.Counts.{points_below, points_of}
 use Rattle.search.specs.Calls.{OwnRound, CutAll}
 use Rattle.search.specs.Cutting.{side_before, Taking, with_row, side_for, row_of, CutBox}
-use Rattle.search.proofs.Levels.{Near}
 use Rattle.search.proofs.Longs.{many}
 use Rattle.search.proofs.Firsts.{box_level, first_unique}
 use Rattle.search.proofs.Places.{chosen_bound, near_row, number_below}

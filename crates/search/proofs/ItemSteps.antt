@@ -13,7 +13,7 @@ use Rattle.search.specs.Replays.Starts.{capped, nothing, playing, rested, shaped
 use Rattle.search.specs.Tales.{AnsweredInOrder, CapMakes, Completes, Leads, Makes, Plays, Tale, Told, cap_items, items_of, meaning_of, round_items, under}
 use Rattle.search.specs.Tales.AnsweredInOrder.{more, none}
 use Rattle.search.specs.Tales.Tale.{◌then◌}
-use Rattle.search.specs.Turns.{Turn, cap_number}
+use Rattle.search.specs.Turns.{Turn}
 use Rattle.search.specs.Turns.Ready.{plain, with_cap}
 use Rattle.search.specs.Turns.Turn.{begins, caps, centre, last, opens, point}
 use Rattle.search.specs.declared.replay.due.Due.{Due}

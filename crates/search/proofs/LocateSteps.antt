@@ -1,11 +1,11 @@
 -- The rank, the long side and the cell of a point, as locate finds them.
 use Rattle.std.proofs.Common.{◌≡◌, ℕ, ◌+◌, ◌-◌, ◌*◌, ◌/◌, ◌%◌, ◌<◌, ◌≤◌, Bool, true, false, T, eqb, List, length, get_or, Some, None, Option, sym, refl, ap, ◌∙◌, subst, add-one, arith, eqb→eq}
-use Rattle.std.proofs.lemmas.Bool.{eq-eqb, ne_eqb, true≢false}
+use Rattle.std.proofs.lemmas.Bool.{eq-eqb, ne_eqb}
 use Rattle.order.specs.declared.records.Candidate.{Candidate}
 use Rattle.ranks.specs.Ranks.{ranks}
 use Rattle.table.specs.Boxes.{First, FirstOfRank, Long, OfRank, Own}
 use Rattle.table.specs.Rows.{level_of, rank, row_at}
-use Rattle.table.specs.Sums.{bit, sum}
+use Rattle.table.specs.Sums.{bit}
 use Rattle.table.specs.declared.rows.Row.{Row}
 use Rattle.search.specs.Calls.{LocatedIn}
 use Rattle.search.specs.Counts.{points_below}

@@ -1,12 +1,11 @@
 -- Which points of a round wait after it is opened and after each answer, and whose table it is then.
-use Rattle.std.proofs.Common.{◌≡◌, ℕ, ◌+◌, ◌<◌, ◌≤◌, Bool, cond, T, List, Some, None, sym, refl, ap, ◌∙◌, subst, subst₂, inl, inr, arith}
+use Rattle.std.proofs.Common.{ℕ, ◌+◌, ◌<◌, ◌≤◌, Bool, cond, T, List, Some, None, sym, ap, ◌∙◌, subst, subst₂, inl, inr, arith}
 use Rattle.order.specs.Answers.{allowed}
 use Rattle.order.specs.declared.answer.Answer.{Answer}
 use Rattle.policy.specs.declared.front.Front.{Front}
 use Rattle.ranks.specs.Ranks.{Ranks}
 use Rattle.table.specs.Boxes.{Own}
 use Rattle.table.specs.Entries.{none_shown, waiting}
-use Rattle.table.specs.Rows.{row_at}
 use Rattle.table.specs.declared.rows.Row.{Row}
 use Rattle.table.specs.declared.shape.Shape.{Shape}
 use Rattle.table.proofs.Sums.{same, yes_is}

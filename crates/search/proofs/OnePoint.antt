@@ -1,5 +1,5 @@
 -- A point has one rank, box and side, so locating has one outcome; and with it every call.
-use Rattle.std.proofs.Common.{◌≡◌, ℕ, ◌+◌, ◌<◌, ◌≤◌, List, get_or, sym, refl, ap, ◌∙◌, subst, ap₂, inl, inr, arith}
+use Rattle.std.proofs.Common.{◌≡◌, ℕ, ◌<◌, ◌≤◌, List, get_or, sym, refl, ap, ◌∙◌, subst, ap₂, inl, inr, arith}
 use Rattle.std.proofs.lemmas.List.{ext_get_or}
 use Rattle.ranks.specs.Ranks.{ranks}
 use Rattle.refusal.specs.declared.Refusal.TheVariants.{NoSuchPoint, NotOwnTable, ShortCellList}

@@ -1,5 +1,5 @@
 -- Some bytes are replayed in one way: to the end of one run, or to one refusal.
-use Rattle.std.proofs.Common.{◌≡◌, ℕ, ◌+◌, ◌<◌, ◌≤◌, List, [], ◌∷◌, ◌++◌, length, take, Ok, Err, Result, sym, refl, ap, ◌∙◌, subst, subst₂, inl, inr, append_assoc, arith, length-append}
+use Rattle.std.proofs.Common.{◌≡◌, ℕ, ◌<◌, ◌≤◌, List, [], ◌++◌, length, take, Ok, Err, sym, refl, ap, ◌∙◌, subst, subst₂, inl, inr, append_assoc, arith, length-append}
 use mathlib.Core.Path.{subst₃}
 use Rattle.std.specs.List.{flat_map}
 use Rattle.record.specs.Items.{bytes_of, mark_of}

@@ -1,8 +1,8 @@
 -- An item is accepted in one way, or refused in one way, and not both.
-use Rattle.std.proofs.Common.{◌≡◌, ℕ, ◌≤◌, T, List, ℤ, Ok, Err, Option, Result, sym, refl, ap, ◌∙◌, subst, subst₂, inl, inr, arith, w32, SFits}
+use Rattle.std.proofs.Common.{◌≡◌, ℕ, ◌≤◌, T, List, Ok, Err, Option, Result, sym, refl, ap, ◌∙◌, subst, subst₂, inl, inr, arith}
 use Rattle.std.proofs.lemmas.Int.{ints}
 use Rattle.std.proofs.lemmas.Bool.Decides.{nat_tests}
-use Rattle.order.specs.Answers.{allowed, in_range}
+use Rattle.order.specs.Answers.{allowed}
 use Rattle.order.specs.declared.answer.Answer.{Answer}
 use Rattle.order.specs.declared.answer.Answer.TheVariants as answer
 use Rattle.policy.specs.declared.cap.Most.{Most}

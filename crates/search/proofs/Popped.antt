@@ -1,10 +1,9 @@
 -- The points of a set of ranks, as its lowest ranks are taken out.
-use Rattle.std.proofs.Common.{◌≡◌, ℕ, ◌+◌, ◌-◌, ◌*◌, ◌%◌, ◌<◌, ◌≤◌, Bool, true, false, cond, ◌≢◌, ◌⊎◌, sym, refl, ap, ◌∙◌, subst, ap₂, inl, inr, arith}
+use Rattle.std.proofs.Common.{◌≡◌, ℕ, ◌+◌, ◌-◌, ◌*◌, ◌%◌, ◌<◌, ◌≤◌, Bool, true, false, cond, sym, refl, ap, ◌∙◌, subst, inl, inr, arith}
 use Rattle.std.proofs.lemmas.Bool.{both_ways}
 use Rattle.ranks.specs.Ranks.{Ranks, none, without, Lowest}
 use Rattle.ranks.proofs.Changes.{without_here, without_other}
 use Rattle.ranks.proofs.Lowest.{not_below}
-use Rattle.table.specs.Sums.{sum}
 use Rattle.table.proofs.Sums.{same, sum_at, sum_cong, sum_split, sum_zero, sum_under}
 use Rattle.search.specs.Counts.{points_below, points_of}
 

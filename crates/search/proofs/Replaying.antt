@@ -1,17 +1,16 @@
 -- How a replay goes on, ends, and is refused.
-use Rattle.std.proofs.Common.{◌≡◌, ℕ, ◌-◌, ◌<◌, ◌≤◌, List, [], ◌∷◌, ◌++◌, length, take, Ok, Err, sym, refl, ap, ◌∙◌, subst, inl, inr, append_assoc, append-nil, arith, length-append}
+use Rattle.std.proofs.Common.{◌≡◌, ℕ, ◌-◌, ◌≤◌, List, [], ◌∷◌, ◌++◌, length, take, Ok, Err, sym, refl, ap, ◌∙◌, subst, inl, inr, append_assoc, append-nil, arith, length-append}
 use Rattle.std.proofs.lemmas.List.{flat_map_more}
 use Rattle.std.specs.List.{flat_map}
 use Rattle.record.specs.Items.{Fit, bytes_of, mark_bytes, mark_of}
 use Rattle.record.specs.declared.item.Item.{Item}
-use Rattle.record.specs.declared.item.Mark.{Mark}
 use Rattle.record.proofs.Decode.{front_mark, long, same_mark}
 use Rattle.refusal.specs.declared.Refusal.TheVariants.{RecordCutShort}
 use Rattle.table.specs.declared.rows.Row.{Row}
 use Rattle.search.specs.Replays.{Starts, Refuses, Replays, Stops, at}
 use Rattle.search.specs.Replays.Starts.{rested}
 use Rattle.search.specs.Tales.{Leads, Tale, items_of, record_of}
-use Rattle.search.specs.Turns.{Declines, InTurn, Turn, Turns}
+use Rattle.search.specs.Turns.{InTurn, Turn, Turns}
 use Rattle.search.specs.declared.replay.due.Due.{Due}
 use Rattle.search.specs.declared.replay.due.Due.TheVariants as due
 use Rattle.search.specs.declared.replay.refused_at.RefusedAt.{RefusedAt}

@@ -1,6 +1,6 @@
 -- The shape that begin makes, and the search of that shape.
 use Rattle.std.proofs.Common.{◌≡◌, ℕ, ◌≤◌, Ok, Err, Result, ◌∙◌, inl, inr}
-use Rattle.refusal.specs.Checks.{Check, Gives}
+use Rattle.refusal.specs.Checks.{Check}
 use Rattle.refusal.specs.declared.Refusal.{Refusal}
 use Rattle.refusal.specs.declared.Refusal.TheVariants.{Directions, FinestLevel}
 use Rattle.table.specs.declared.shape.Shape.{Shape}

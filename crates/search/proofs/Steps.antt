@@ -5,8 +5,7 @@ use Rattle.order.specs.Answers.{allowed}
 use Rattle.order.specs.declared.answer.Answer.{Answer}
 use Rattle.table.specs.Boxes.{Long}
 use Rattle.table.specs.Entries.{shown_by}
-use Rattle.table.specs.Rows.{IsMiddle, LiesIn, no_row, row_at}
-use Rattle.table.specs.declared.rows.Entry.TheVariants.{Answered}
+use Rattle.table.specs.Rows.{IsMiddle, LiesIn, row_at}
 use Rattle.table.specs.declared.rows.Row.{Row}
 use Rattle.table.specs.declared.shape.Shape.{Shape}
 use Rattle.table.proofs.Sums.{less, same, yes_is}

@@ -1,5 +1,5 @@
 -- What the calls that an item asks for make of what is due.
-use Rattle.std.proofs.Common.{◌≡◌, ℕ, ◌+◌, ◌<◌, T, List, [], ◌∷◌, set, Some, None, Ok, Err, Option, Result, sym, refl, ap, subst, subst₂, inl, inr, le_refl}
+use Rattle.std.proofs.Common.{◌≡◌, ℕ, ◌+◌, T, List, [], ◌∷◌, set, Some, None, Ok, Err, Option, Result, sym, refl, subst, inl, inr, le_refl}
 use Rattle.order.specs.Answers.{allowed}
 use Rattle.order.specs.declared.answer.Answer.{Answer}
 use Rattle.order.specs.declared.answer.Answer.TheVariants as answer
@@ -14,12 +14,11 @@ use Rattle.refusal.specs.declared.Refusal.{Refusal}
 use Rattle.refusal.specs.declared.Refusal.TheVariants.{ShareAboveLimit}
 use Rattle.table.specs.Rows.{row_at}
 use Rattle.table.specs.declared.rows.Row.{Row}
-use Rattle.search.specs.Calls.{Answers, Begins, OpensIn, OwnRest, OwnRound, Waits, with_answer}
+use Rattle.search.specs.Calls.{Answers, Begins, OpensIn, OwnRest, with_answer}
 use Rattle.search.specs.Tales.{CapMakes, Makes, meaning_of, under}
 use Rattle.search.specs.Turns.{Among, AnsweredBelow, Declines, InTurn, OpensNamed, Ready, Turns, cap_number}
 use Rattle.search.specs.Turns.Declines.{no_policy, no_round}
 use Rattle.search.specs.Turns.Ready.{plain, with_cap}
-use Rattle.search.specs.declared.replay.refused_at.RefusedAt.{RefusedAt}
 use Rattle.search.specs.declared.replay.due.Due.{Due}
 use Rattle.search.specs.declared.states.Rest.{Rest}
 use Rattle.search.specs.declared.states.Round.{Round}

@@ -1,5 +1,5 @@
 -- The chosen ranks in turn, the lowest first: each is popped from a set, and its taken box is cut.
-use Rattle.std.proofs.Common.{◌≡◌, ℕ, ◌+◌, ◌-◌, ◌*◌, ◌%◌, ◌<◌, ◌≤◌, true, false, T, List, Some, None, Option, sym, refl, ap, ◌∙◌, subst, inl, inr, arith}
+use Rattle.std.proofs.Common.{◌≡◌, ℕ, ◌+◌, ◌-◌, ◌*◌, ◌%◌, ◌<◌, ◌≤◌, false, T, List, Some, None, Option, sym, refl, ap, ◌∙◌, subst, inl, inr, arith}
 use Rattle.std.proofs.lemmas.Bool.{true≢false}
 use Rattle.order.specs.declared.records.Candidate.{Candidate}
 use Rattle.ranks.proofs.Changes.{without_here, without_other}
@@ -11,7 +11,6 @@ use Rattle.table.specs.Entries.{answer_of}
 use Rattle.table.specs.Boxes.{FirstOfRank, First}
 use Rattle.table.proofs.Sums.{same, less}
 use Rattle.search.specs.declared.states.Round.{Round}
-use Rattle.search.specs.Points.{low}
 use Rattle.search.specs.Calls.{OwnRound, CutAll}
 use Rattle.search.specs.Cutting.{Taking, CutBox}
 use Rattle.search.proofs.Firsts.{shown_is}

@@ -1,5 +1,5 @@
 -- The calls: each outcome, with the table, the cell list and the state after it.
-use Rattle.std.specs.Prelude.{◌≡◌, ℕ, ◌+◌, ◌<◌, ◌≤◌, true, T, ◌≢◌, List, length, ℤ, Some, Ok, Err, Option, Result, MatchOption, slice_index, slice_set}
+use Rattle.std.specs.Prelude.{◌≡◌, ℕ, ◌+◌, ◌<◌, ◌≤◌, T, ◌≢◌, List, length, ℤ, Some, Ok, Err, Option, Result, MatchOption, slice_index, slice_set}
 use Rattle.order.specs.Answers.{allowed}
 use Rattle.order.specs.First.{FirstAmong}
 use Rattle.order.specs.Records.{candidate_before}

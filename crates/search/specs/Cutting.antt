@@ -9,10 +9,9 @@ use Rattle.order.specs.declared.answer.Answer.TheVariants.{Reading}
 use Rattle.table.specs.Boxes.{Long}
 use Rattle.table.specs.Entries.{answer_of}
 use Rattle.table.specs.Rows.{first_of, level_of, rank, row_at}
-use Rattle.table.specs.Sums.{bit, sum}
 use Rattle.table.specs.declared.rows.Entry.{Entry}
 use Rattle.table.specs.declared.rows.Row.{Row}
-use Rattle.search.specs.Points.{longs_below, Given, IsThird, Kept, Same, Side, Six, Third, high, is_long, low, lower, middle, outer, start_of, upper}
+use Rattle.search.specs.Points.{longs_below, Given, IsThird, Kept, Same, Side, Six, Third, high, low, lower, middle, outer, start_of, upper}
 use Rattle.search.specs.declared.sides.LongSide.{LongSide}
 
 -- a row whose side d is an interval of more than one cell, so that it can be cut

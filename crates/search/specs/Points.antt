@@ -1,5 +1,5 @@
 -- The points of a round, their cells, and what closing makes of the taken boxes.
-use Rattle.std.specs.Prelude.{◌≡◌, ℕ, ◌+◌, ◌-◌, ◌*◌, ◌/◌, ◌<◌, ◌≤◌, Bool, true, false, T, ◌≢◌, List, length, ◌==◌, slice_index}
+use Rattle.std.specs.Prelude.{◌≡◌, ℕ, ◌+◌, ◌*◌, ◌/◌, ◌<◌, Bool, true, false, T, ◌≢◌, List, length, ◌==◌, slice_index}
 use Rattle.grid.specs.Grid.{cells_at, middle_of}
 use Rattle.order.specs.Answers.{earlier_answer}
 use Rattle.order.specs.declared.answer.Answer.{Answer}

@@ -6,7 +6,6 @@ use Rattle.policy.specs.Rules.{OnlyFilled, ReachesLargest}
 use Rattle.policy.specs.declared.front.Front.{Front}
 use Rattle.ranks.specs.Ranks.{Ranks}
 use Rattle.refusal.specs.declared.Refusal.{Refusal}
-use Rattle.table.specs.Boxes.{Own}
 use Rattle.table.specs.Entries.{shown_by}
 use Rattle.table.specs.Fronts.{FrontOf}
 use Rattle.table.specs.Rows.{IsCell, IsMiddle, LiesIn, rank, row_at, side_of}

@@ -1,5 +1,5 @@
 -- Runs as records tell them: what a record says of a run, its bytes, and where the run leads.
-use Rattle.std.specs.Prelude.{◌≡◌, ℕ, ◌<◌, ◌≤◌, List, [], ◌∷◌, ◌++◌, map, length, Some, None, Ok, Option}
+use Rattle.std.specs.Prelude.{◌≡◌, ℕ, ◌≤◌, List, [], ◌∷◌, ◌++◌, map, length, Some, None, Ok, Option}
 use Rattle.std.specs.List.{flat_map}
 use Rattle.hull.specs.Decide.{hull_ranks}
 use Rattle.order.specs.declared.answer.Answer.{Answer}

@@ -1,8 +1,8 @@
 -- A strict total order given by a test: the first of a set, and sums over the places in a set.
-use Rattle.std.proofs.Common.{◌≡◌, ℕ, zero, suc, ◌+◌, ◌-◌, ◌*◌, ◌<◌, ◌≤◌, Bool, true, false, cond, ◌&&◌, T, eqb, ◌≢◌, ◌⊎◌, sym, refl, ap, ◌∙◌, subst, inl, inr, arith, eqb→eq}
+use Rattle.std.proofs.Common.{◌≡◌, ℕ, zero, suc, ◌<◌, Bool, true, false, cond, ◌&&◌, T, eqb, ◌≢◌, ◌⊎◌, sym, refl, ap, ◌∙◌, subst, inl, inr, arith, eqb→eq}
 use lib.Dec.{eqb_refl}
 use Rattle.table.specs.Sums.{sum, bit}
-use Rattle.table.proofs.Sums.{test, yes_is, no_is, bit_yes, bit_no, both, both_left, both_right, same, less, sum_cong, sum_at, sum_none, sum_zero, sum_term}
+use Rattle.table.proofs.Sums.{test, yes_is, no_is, bit_yes, bit_no, both, both_left, both_right, same, sum_cong, sum_at, sum_none, sum_zero}
 
 pub record Strict (b : ℕ → ℕ → Bool) : Type 0 where
   pub irrefl : (d : ℕ) → T (b d d) → ⊥

@@ -1,5 +1,5 @@
 -- The first box of each rank, one box more.
-use Rattle.std.proofs.Common.{◌≡◌, ℕ, ◌+◌, ◌*◌, ◌<◌, ◌≤◌, ◌⊎◌, List, length, get_or, set, Some, None, Option, sym, refl, ap, ◌∙◌, subst, inl, inr, ⊎_elim, mul-le-mul, arith}
+use Rattle.std.proofs.Common.{◌≡◌, ℕ, ◌+◌, ◌*◌, ◌<◌, ◌≤◌, ◌⊎◌, List, length, get_or, set, Some, None, Option, sym, ap, ◌∙◌, subst, inl, inr, ⊎_elim, mul-le-mul, arith}
 use Rattle.std.proofs.lemmas.Bool.{cases_lt, cases_eq}
 use Rattle.std.proofs.lemmas.List.{get_or-set_same, get_or-set_other}
 use Rattle.order.specs.First.{FirstAmong, HeldOr}
@@ -11,7 +11,7 @@ use Rattle.order.proofs.Numbers.{ranks_by_answer}
 use Rattle.table.specs.declared.rows.Row.{Row}
 use Rattle.table.specs.Entries.{shown_by}
 use Rattle.table.specs.Rows.{rank, row_at}
-use Rattle.table.specs.Boxes.{Offered, OfRank, FirstOfRank}
+use Rattle.table.specs.Boxes.{Offered, FirstOfRank}
 
 pub rank_bound : (n finest r : ℕ) → n ≤ 6 → finest ≤ 19 → r < n * finest → r < 114
 rank_bound n finest r a b h = omega (arith, mul-le-mul a b)

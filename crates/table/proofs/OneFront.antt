@@ -1,11 +1,10 @@
 -- The first box of a rank, the readings and the front of a table are each one.
-use Rattle.std.proofs.Common.{◌≡◌, ℕ, ◌<◌, false, List, length, get_or, ℤ, ◌≤ℤ◌, Some, None, Option, sym, refl, ap, ◌∙◌, arith}
+use Rattle.std.proofs.Common.{◌≡◌, ℕ, ◌<◌, false, List, ℤ, ◌≤ℤ◌, Some, None, Option, sym, refl, ap, ◌∙◌, arith}
 use borrow.Author.Differences.{ints}
 use Rattle.std.proofs.lemmas.List.{ext_get_or}
 use Rattle.order.specs.Records.{candidate_before, candidate_key}
 use Rattle.order.specs.declared.answer.Answer.{Answer}
 use Rattle.order.specs.declared.records.Candidate.{Candidate}
-use Rattle.order.specs.Answers.{Numbered}
 use Rattle.order.proofs.Among.{first_among_one}
 use Rattle.order.proofs.Numbers.{numbered_total}
 use Rattle.policy.proofs.Same.{front_same}

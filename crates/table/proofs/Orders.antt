@@ -1,5 +1,5 @@
 -- The order by answer, then by lower number, is strict and total on numbers.
-use Rattle.std.proofs.Common.{◌≡◌, ℕ, Bool, true, false, T, ◌≢◌, ◌⊎◌, sym, ap, ◌∙◌, inl, inr}
+use Rattle.std.proofs.Common.{◌≡◌, ℕ, Bool, true, false, T, sym, ap, ◌∙◌, inl, inr}
 use Rattle.std.proofs.lemmas.Bool.{true≢false}
 use Rattle.order.specs.Answers.{Numbered}
 use Rattle.order.specs.declared.answer.Answer.{Answer}

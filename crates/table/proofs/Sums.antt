@@ -1,7 +1,6 @@
 -- Sums over the numbers below n, and tests.
-use Rattle.std.proofs.Common.{◌≡◌, ℕ, zero, suc, ◌+◌, ◌-◌, ◌*◌, ◌<◌, ◌≤◌, Bool, true, false, cond, ◌&&◌, T, eqb, ◌≢◌, ◌⊎◌, sym, refl, ap, ◌∙◌, subst, inl, inr, add_assoc, mul_comm, mul-add, arith, eqb→eq}
-use native.Mathlib.Decide.{dec_lt, dec_le, ℕ_discrete}
-use lib.Dec.{eqb_refl}
+use Rattle.std.proofs.Common.{◌≡◌, ℕ, zero, suc, ◌+◌, ◌*◌, ◌<◌, ◌≤◌, Bool, true, false, ◌&&◌, T, ◌≢◌, ◌⊎◌, sym, refl, ap, ◌∙◌, inl, inr, mul-add, arith}
+use native.Mathlib.Decide.{dec_lt, ℕ_discrete}
 use Rattle.table.specs.Sums.{sum, bit}
 
 pub test : (b : Bool) → T b ⊎ (T b → ⊥)

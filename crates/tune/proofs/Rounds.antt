@@ -1,5 +1,5 @@
 -- The rounds that the levels of two directions ask for, one level after the other.
-use Rattle.std.proofs.Common.{◌≡◌, ℕ, suc, ◌+◌, ◌*◌, ◌^◌, ◌<◌, ◌≤◌, ap, ◌∙◌, pow-suc, mul-add, arith, lit<}
+use Rattle.std.proofs.Common.{◌≡◌, ℕ, suc, ◌+◌, ◌*◌, ◌^◌, ◌≤◌, ap, ◌∙◌, pow-suc, mul-add, arith, lit<}
 use native.Mathlib.Nat.{pow-le-pow_right}
 use Rattle.search.specs.Runs.{rounds_for}
 use Rattle.table.specs.Sums.{sum}

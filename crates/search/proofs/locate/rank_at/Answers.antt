@@ -1,5 +1,5 @@
 -- The rank that the point is of.
-use Rattle.std.proofs.Common.{◌≡◌, sym, ◌∙◌, subst, le_refl, mod-lt, arith}
+use Rattle.std.proofs.Common.{sym, ◌∙◌, subst, mod-lt, arith}
 use Rattle.ranks.specs.Ranks.{ranks}
 use Rattle.search.proofs.Popped.{Tail, points_next, points_none, points_before, tail_less}
 use Rattle.search.proofs.locate.rank_at.Goals as goal

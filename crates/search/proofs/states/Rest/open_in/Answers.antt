@@ -1,5 +1,5 @@
 -- The outcomes of opening, and what makes the round real.
-use Rattle.std.proofs.Common.{◌≡◌, sym, refl, ap, ◌∙◌}
+use Rattle.std.proofs.Common.{sym, refl, ap, ◌∙◌}
 use Rattle.std.proofs.lemmas.Bool.{true≢false}
 use Rattle.search.specs.Counts.{points_of}
 use Rattle.search.proofs.Opens.{opens_full, opens_none, opens_ok, some_box, two}

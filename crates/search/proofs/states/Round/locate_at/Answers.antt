@@ -1,5 +1,5 @@
 -- The box that the point is of, and its cell.
-use Rattle.std.proofs.Common.{◌≡◌, ℕ, ◌/◌, T, sym, refl, ap, ◌∙◌, subst, inl, inr, arith, rules}
+use Rattle.std.proofs.Common.{ℕ, ◌/◌, T, sym, refl, ap, subst, inr, arith, rules}
 use Rattle.search.proofs.LocateSteps.{at_first, coarse_side, located_in, no_first, side_number}
 use Rattle.search.proofs.states.Round.locate_at.Goals as goal
 

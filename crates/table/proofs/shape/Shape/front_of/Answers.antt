@@ -1,6 +1,5 @@
 -- What the boxes show makes a front.
-use Rattle.std.proofs.Common.{◌≡◌, ℕ, ◌*◌, length, get_or, None, sym, ap, ◌∙◌, subst, arith, rules}
-use Rattle.policy.specs.Fronts.{EmptyFrom}
+use Rattle.std.proofs.Common.{◌≡◌, length, get_or, None, sym, ap, ◌∙◌, subst, rules}
 use Rattle.table.specs.Fronts.{FrontOf, ReadingsOf}
 use Rattle.table.proofs.Formed.{all_fit, empty_from, ends_of}
 use Rattle.table.proofs.OneFront.{front_one}

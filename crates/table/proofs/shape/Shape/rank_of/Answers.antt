@@ -1,5 +1,5 @@
 -- One level more.
-use Rattle.std.proofs.Common.{◌≡◌, ◌+◌, ◌*◌, ◌≤◌, get_or, sym, ap, ◌∙◌, add-one, arith, rules}
+use Rattle.std.proofs.Common.{◌≡◌, ◌+◌, ◌≤◌, get_or, sym, ap, ◌∙◌, add-one, arith, rules}
 use Rattle.table.specs.Rows.{level_of}
 use Rattle.table.specs.Sums.{sum}
 use Rattle.table.proofs.shape.Shape.rank_of.Goals as goal
