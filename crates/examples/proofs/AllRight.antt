@@ -1,7 +1,7 @@
 -- Each example is right: what is left of it is computed, in the order of the collection.
 use Rattle.std.proofs.Common.{refl, lit<, lit≤}
 use native.Mathlib.Decide.{dec_lt, ℕ_discrete}
-use Rattle.std.specs.List.{AllByRecursion as All}
+use Rattle.std.specs.List.{AllByRecursion}
 use Rattle.hull.specs.Decide.{chosen?, hull_ranks, not_before?, taken?, yields?}
 use Rattle.hull.specs.Values.{margin, size, value}
 use Rattle.search.specs.Counts.{points_of}
@@ -14,7 +14,7 @@ infixr 10 ◌also◌
 ◌also◌ : {A B : Type 0} → A → B → A × B
 a also b = (a, b)
 
-facts : All Facts examples
+facts : AllByRecursion Facts examples
 unfolding points_of hull_ranks chosen? yields? taken? not_before? value size margin dec_lt ℕ_discrete
 facts =
     ((lit≤ tt, refl, lit≤ tt), lit< tt, refl, refl, refl)

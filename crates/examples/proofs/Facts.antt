@@ -1,6 +1,6 @@
 -- What is left to compute of an example, and that it is right then.
 use Rattle.std.proofs.Common.{◌≡◌, ℕ, ◌-◌, ◌*◌, ◌/◌, ◌%◌, ◌<◌, ◌≤◌, true, List, [], ◌∷◌, length, ◌∙◌, subst₂}
-use Rattle.std.specs.List.{AllByRecursion as All}
+use Rattle.std.specs.List.{AllByRecursion}
 use Rattle.grid.specs.Grid.{IsInterval}
 use Rattle.policy.specs.Fronts.{ends_fit}
 use Rattle.search.specs.Points.{lower, middle, start_of, upper}
@@ -16,7 +16,7 @@ Facts (box n r t long_sides) = (1 ≤ n) × (n ≤ 6) × (r / n ≡ t) × (n - r
 Facts (points n chosen count) = Right (points n chosen count)
 Facts (rounds n k count) = Right (rounds n k count)
 Facts (hull n share readings chosen) =
-    (1 ≤ n) × (n ≤ 6) × (length readings ≤ 19 * n) × (ends_fit (ends_of readings) ≡ true) × All (Fit (ends_of readings)) readings × All (λ c. c < length readings) chosen
+    (1 ≤ n) × (n ≤ 6) × (length readings ≤ 19 * n) × (ends_fit (ends_of readings) ≡ true) × AllByRecursion (Fit (ends_of readings)) readings × AllByRecursion (λ c. c < length readings) chosen
     × Agree share chosen (length readings) n (entries_of readings) (ends_of readings)
 Facts (division n centre readings first ranks) = Right (division n centre readings first ranks)
 
@@ -30,6 +30,6 @@ by_facts (hull n share readings chosen) (some, few, short, ends, fit, below, agr
     chooses n share readings chosen (is_front n readings some few short ends fit) below agree
 by_facts (division n centre readings first ranks) h = h
 
-pub all_by_facts : (xs : List Example) → All Facts xs → All Right xs
+pub all_by_facts : (xs : List Example) → AllByRecursion Facts xs → AllByRecursion Right xs
 all_by_facts [] h = tt
 all_by_facts (x ∷ xs) h = (by_facts x h.0, all_by_facts xs h.1)

@@ -3,7 +3,7 @@ use Rattle.std.proofs.Common.{◌≡◌, ℕ, zero, suc, ◌-◌, ◌*◌, ◌<�
 use lib.ListN.{length-replicate}
 use Rattle.std.proofs.lemmas.List.{length-map}
 use Rattle.std.proofs.lemmas.Bool.{ne_eqb, or_from}
-use Rattle.std.specs.List.{AllByRecursion as All}
+use Rattle.std.specs.List.{AllByRecursion}
 use Rattle.order.specs.declared.answer.Answer.{Answer}
 use Rattle.policy.specs.Fronts.{IsFront, ends_fit, entry_fits}
 use Rattle.examples.specs.Examples.{ends_of, entries_of, only, reading}
@@ -33,7 +33,7 @@ no_entry_fits : (ends : Option (ℤ × ℤ)) → entry_fits ends None ≡ true
 no_entry_fits None = refl
 no_entry_fits (Some ends) = refl
 
-all_fit : (ends : Option (ℤ × ℤ)) (xs : List ℕ) (m r : ℕ) → All (Fit ends) xs → entry_fits ends (get_or (padded xs m) r None) ≡ true
+all_fit : (ends : Option (ℤ × ℤ)) (xs : List ℕ) (m r : ℕ) → AllByRecursion (Fit ends) xs → entry_fits ends (get_or (padded xs m) r None) ≡ true
 all_fit ends [] m r h = ap (entry_fits ends) (none_in m r) ∙ no_entry_fits ends
 all_fit ends (x ∷ xs) m zero h = h.0
 all_fit ends (x ∷ xs) m (suc r) h = all_fit ends xs m r h.1
@@ -49,7 +49,7 @@ entries_long readings few =
     )
 
 -- readings that are a front
-pub is_front : (n : ℕ) (readings : List ℕ) → 1 ≤ n → n ≤ 6 → length readings ≤ 19 * n → ends_fit (ends_of readings) ≡ true → All (Fit (ends_of readings)) readings
+pub is_front : (n : ℕ) (readings : List ℕ) → 1 ≤ n → n ≤ 6 → length readings ≤ 19 * n → ends_fit (ends_of readings) ≡ true → AllByRecursion (Fit (ends_of readings)) readings
     → IsFront n (entries_of readings) (ends_of readings)
 is_front n readings some few short ends fit = (
   some,
@@ -61,6 +61,6 @@ is_front n readings some few short ends fit = (
 )
 
 -- no rank from k on is among the listed ones
-pub none_listed : (chosen : List ℕ) (k r : ℕ) → All (λ c. c < k) chosen → k ≤ r → only chosen r ≡ false
+pub none_listed : (chosen : List ℕ) (k r : ℕ) → AllByRecursion (λ c. c < k) chosen → k ≤ r → only chosen r ≡ false
 none_listed [] k r h l = refl
 none_listed (c ∷ cs) k r h l = or_from (only cs r) (eqb r c) (none_listed cs k r h.1 l) (ne_eqb r c (λ e. omega (arith, h.0)))

@@ -1,7 +1,7 @@
 -- Which ranks the hull chooses at a front of some readings: those of the first ranks are computed, and no other is chosen.
 use Rattle.std.proofs.Common.{◌≡◌, ℕ, zero, suc, ◌*◌, ◌<◌, ◌≤◌, Bool, true, false, List, length, get_or, ℤ, is_some, None, Option, sym, refl, ap, ◌∙◌, subst, inl, inr, arith}
 use Rattle.std.proofs.lemmas.Bool.{true≢false}
-use Rattle.std.specs.List.{AllByRecursion as All}
+use Rattle.std.specs.List.{AllByRecursion}
 use Rattle.order.specs.declared.answer.Answer.{Answer}
 use Rattle.policy.specs.Fronts.{AllFit, EmptyFrom, IsFront, ends_fit}
 use Rattle.policy.specs.Levels.{filled}
@@ -56,7 +56,7 @@ module _ (n share : ℕ) (readings chosen : List ℕ) where
   not_chosen f e r l true h =
       absurd (true≢false (sym (hull_sound share f r h) ∙ ap (λ (x : List (Option Answer)). is_some (get_or x r None)) e ∙ ap is_some (empty_past readings r l)))
 
-  pub chooses : IsFront n (entries_of readings) (ends_of readings) → All (λ c. c < length readings) chosen
+  pub chooses : IsFront n (entries_of readings) (ends_of readings) → AllByRecursion (λ c. c < length readings) chosen
       → Agree share chosen (length readings) n (entries_of readings) (ends_of readings) → Right (hull n share readings chosen)
   chooses front below h = (
     front,

@@ -1,6 +1,6 @@
 -- The worked examples of the rules, and what each of them claims.
 use Rattle.std.specs.Prelude.{◌≡◌, ℕ, ◌-◌, ◌<◌, true, ◌≢◌, List, [], ◌∷◌, ◌++◌, map, length, replicate, ℤ, pos, Some, None, Option, slice_index}
-use Rattle.std.specs.List.{AllByRecursion as All}
+use Rattle.std.specs.List.{AllByRecursion}
 use Rattle.grid.specs.Grid.{IsInterval}
 use Rattle.grid.specs.Thirds.{ThirdsOf}
 use Rattle.grid.specs.declared.interval.Interval.{Interval}
@@ -89,7 +89,7 @@ Right (division n middle readings first ranks) =
 
 -- each of them is right
 abbrev pub AllRight : List Example → Type 0
-AllRight = All Right
+AllRight = AllByRecursion Right
 
 abbrev pub examples : List Example
 examples =
