@@ -83,7 +83,7 @@ module _ (e : ℕ) (f : Front) (t j : ℕ) (taken : Taken f j) (at : level f j �
   hull_in chosen = level_in (hull_ranks e f) f t j at ((hull_conditions e f j).1 chosen) one
 
   pub hull_out : (Chosen e f j → ⊥) → up_to_level (hull_ranks e f) f t ≡ up_to_level (hull_ranks e f) f (t + 1)
-  hull_out not-Chosen = level_out (hull_ranks e f) f t (λ k h l. not-Chosen (subst (Chosen e f) (one k h l) ((hull_conditions e f k).0 h)))
+  hull_out not_chosen = level_out (hull_ranks e f) f t (λ k h l. not_chosen (subst (Chosen e f) (one k h l) ((hull_conditions e f k).0 h)))
 
 -- the levels below 19 are all
 pub hull_all : (e : ℕ) (f : Front) → up_to_level (hull_ranks e f) f 19 ≡ hull_ranks e f

@@ -1,11 +1,12 @@
 -- Rank sets and the ranks in them.
-use Rattle.std.proofs.Common.{◌≡◌, ℕ, ◌^◌, ◌<◌, ◌≤◌, true, false, ◌⊎◌, ap, inl, inr, arith}
+use Rattle.std.proofs.Common.{Decides, nat_eq, ◌≡◌, ℕ, ◌^◌, ◌<◌, ◌≤◌, true, false, ◌⊎◌, ap, inl, inr, arith}
 use mathlib.Core.Path.{fun_ext}
 use mathlib.Core.HLevel.{is_prop→PathP}
 use native.Mathlib.Bridge.{le_prop}
-use Rattle.std.proofs.lemmas.Bool.{cases_lt, both_ways}
+use Rattle.std.proofs.lemmas.Bool.{cases_lt, both_ways, and_parts, eqb-true, eq-eqb}
+use Rattle.std.specs.Cmp.Derive.{both_true}
 use Rattle.ranks.specs.declared.rank_set.RankSet.{RankSet}
-use Rattle.ranks.specs.Ranks.{ranks, word, none, size}
+use Rattle.ranks.specs.Ranks.{ranks, word, words_equal, none, size}
 use Rattle.ranks.proofs.Counts.{count_zero}
 use Rattle.ranks.proofs.Digits.{bit_past, same_digits}
 
@@ -55,3 +56,10 @@ size_zero s e = fun_ext (λ k. go k (cases_lt k 114))
     go : (k : ℕ) → (k < 114) ⊎ (114 ≤ k) → ranks s k ≡ false
     go k (inl l) = count_zero (ranks s) 114 e k l
     go k (inr g) = past s k g
+
+-- `==` of two sets is true exactly where they have the same ranks
+pub words_equal-Decides : (s t : RankSet) → Decides (words_equal s t) (ranks s ≡ ranks t)
+words_equal-Decides s t = (
+  λ e. let both = and_parts (nat_eq s.low t.low) (nat_eq s.high t.high) e in ap ranks (same_fields s t (eqb-true s.low t.low both.0) (eqb-true s.high t.high both.1)),
+  λ e. let one = same_words s t e in both_true (eq-eqb s.low t.low (ap (λ x. x.low) one)) (eq-eqb s.high t.high (ap (λ x. x.high) one)),
+)

@@ -1,5 +1,6 @@
 -- Sets of ranks, and what the bits of a rank set say.
-use Rattle.std.specs.Prelude.{◌≡◌, ℕ, zero, suc, ◌+◌, ◌*◌, ◌/◌, ◌%◌, ◌^◌, ◌<◌, Bool, true, false, cond, not, ◌&&◌, ◌||◌, ◌==◌, nat_lt}
+use Rattle.std.specs.Prelude.{◌≡◌, ℕ, zero, suc, ◌+◌, ◌*◌, ◌/◌, ◌%◌, ◌^◌, ◌<◌, Bool, true, false, cond, not, ◌&&◌, ◌||◌, ◌==◌, nat_eq, nat_lt}
+use Rattle.std.specs.Ordering.{on, eq_of_both}
 use Rattle.ranks.specs.declared.rank_set.RankSet.{RankSet}
 
 -- a set of ranks
@@ -17,6 +18,10 @@ word s = s.high * 2 ^ 64 + s.low
 -- the set that the bits stand for
 unfoldable pub ranks : RankSet → Ranks
 ranks s = bit (word s)
+
+-- whether two sets have the same words
+abbrev pub words_equal : RankSet → RankSet → Bool
+words_equal = eq_of_both (on (λ s. s.low) nat_eq) (on (λ s. s.high) nat_eq)
 
 -- the empty set
 abbrev pub none : Ranks

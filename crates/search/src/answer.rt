@@ -1,5 +1,5 @@
 // The points of a round that wait, and their answers.
-ghost use Rattle.std.specs.Prelude.{◌≡◌, ℕ, ◌+◌, ◌<◌, T, slice_set};
+ghost use Rattle.std.specs.Prelude.{◌≡◌, ℕ, ◌+◌, ◌<◌, T, length, slice_set};
 ghost use Rattle.order.specs.Answers.{allowed};
 ghost use Rattle.search.specs.Calls.{Answers, AnswersIn, FindsWaiting, OwnRound, WaitingPoint, Waits, with_answer};
 ghost use Rattle.table.specs.Rows.{row_at};
@@ -8,6 +8,14 @@ use crate::states::Round;
 use order::answer::Answer;
 use refusal::Refusal;
 use table::rows::{Entry, Row};
+
+// The row of a point receives its answer.
+pub(crate) fn note(row: usize, answer: Answer, table: &mut [Row])
+    requires { row < length table.old }
+    ensures { table.new ≡ slice_set table.old row (with_answer (row_at table.old row) answer) }
+{
+    table[row].entry = Entry::Answered(answer);
+}
 
 impl Round {
     // As `waiting`, where the table is known to be the round's own.
@@ -21,16 +29,6 @@ impl Round {
             }
         }
         None
-    }
-
-    // The row of a point receives its answer.
-    pub(crate) fn note(&self, point: usize, answer: Answer, table: &mut [Row])
-        requires own { OwnRound self.now table.old }
-        requires within { point < self.now.points }
-        ensures { table.new ≡ slice_set table.old (self.now.boxes + point) (with_answer (row_at table.old (self.now.boxes + point)) answer) }
-    {
-        let row = self.boxes + point;
-        table[row].entry = Entry::Answered(answer);
     }
 
     // As `answer`, where the table is known to be the round's own and the answer to be allowed.
@@ -47,10 +45,11 @@ impl Round {
         if point >= self.points {
             return Err(Refusal::NoSuchPoint);
         }
-        if !table[self.boxes + point].entry.waits() {
+        let row = self.boxes + point;
+        if !table[row].entry.waits() {
             return Err(Refusal::AlreadyAnswered);
         }
-        self.note(point, answer, table);
+        note(row, answer, table);
         Ok(())
     }
 

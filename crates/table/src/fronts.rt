@@ -1,7 +1,7 @@
 // The front that some boxes form.
 ghost use Rattle.std.specs.Prelude.{◌≡◌, ℕ, ◌<◌, length, None, slice_index_or};
 ghost use Rattle.policy.specs.declared.front.Front.{Front as FrontValue};
-ghost use Rattle.table.specs.Fronts.{FrontOf, ReadingsOf, answer_in, widened as widened-by};
+ghost use Rattle.table.specs.Fronts.{FrontOf, ReadingsOf, answer_in, widened as widened_by};
 
 use crate::rows::Row;
 use crate::shape::Shape;
@@ -12,7 +12,7 @@ use ranks::rank_set::RANKS;
 
 // The ends of some readings, once that of an answer is among them.
 fn widened(ends: Option<(i32, i32)>, answer: Option<Answer>) -> Option<(i32, i32)>
-    ensures { result ≡ widened-by ends answer }
+    ensures { result ≡ widened_by ends answer }
 {
     match (ends, answer) {
         (None, Some(Answer::Reading(x))) => Some((x, x)),

@@ -1,7 +1,6 @@
 // Which ranks are in a set: the empty set, the test, the insertion, equality.
-ghost use Rattle.std.specs.Prelude.{◌≡◌, ◌<◌, ◌≤◌, true, Decides, nat_eq};
-ghost use Rattle.std.specs.Ordering.{on, eq_of_both};
-ghost use Rattle.ranks.specs.Ranks.{ranks, none, with};
+ghost use Rattle.std.specs.Prelude.{◌≡◌, ◌<◌, ◌≤◌, true, Decides};
+ghost use Rattle.ranks.specs.Ranks.{ranks, none, with, words_equal};
 ghost use Rattle.std.specs.Cmp.Rules.{comparing};
 ghost use Rattle.std.proofs.Common.{rules, arith};
 
@@ -44,12 +43,12 @@ impl RankSet {
 
 // Two sets are equal where they have the same ranks.
 impl PartialEq for RankSet {
-    ghost eq = { eq_of_both (on (λ v. v.low) nat_eq) (on (λ v. v.high) nat_eq) };
+    ghost eq = { words_equal };
 
     ghost laws = { first_of (Prim.search (comparing, rules), Prim.grind (arith, Self.row.coded.inj)) };
 
     fn eq(&self, other: &RankSet) -> bool
-        ensures value { result ≡ eq_of_both (on (λ v. v.low) nat_eq) (on (λ v. v.high) nat_eq) self.now other.now }
+        ensures value { result ≡ words_equal self.now other.now }
         ensures same { Decides result (ranks self.now ≡ ranks other.now) }
     {
         self.low == other.low && self.high == other.high

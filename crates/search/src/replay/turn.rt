@@ -7,6 +7,7 @@ ghost use Rattle.search.specs.Turns.{AnsweredBelow, InTurn, IsCapped, IsPoints, 
 ghost use Rattle.search.specs.declared.replay.due.Due.{Due as DueValue};
 ghost use Rattle.search.specs.declared.replay.due.Due.TheVariants as state;
 
+use crate::answer::note;
 use crate::begin::begin;
 use crate::replay::due::Due;
 use crate::replay::refused_at::RefusedAt;
@@ -116,7 +117,7 @@ fn answer_point(
         let why = Refusal::ReadingOutOfRange;
         return Err(RefusedAt { why, place });
     }
-    round.note(p, answer, table);
+    note(round.boxes + p, answer, table);
     if p + 1 < round.points {
         Ok(Due::Points(round, p + 1))
     } else {
