@@ -11,8 +11,8 @@ WORD = r"[^\s(){};,.\"`«»⌜⌝]+"
 SIGNATURE = re.compile(r"^\s*(?:(?:abbrev|unfoldable|pub|data|record|ruleset)\s+)*(" + WORD + r")\s+:\s")
 LOCAL = re.compile(r"\blet (" + WORD + r")\s+[:=]")
 RECORD = re.compile(r"^\s*(?:(?:abbrev|unfoldable|pub)\s+)*(?:record|data|ruleset) (" + WORD + ")")
-# a name that falls together with one of the kit's
-APART = {"bit-or": "bit_of_or"}
+# a name that would fall together with one of the kit's, and a fact, which is spelled as a type
+APART = {"bit-or": "bit_of_or", "None-below": "NoneBelow"}
 
 
 def files(*ends):

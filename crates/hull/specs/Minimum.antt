@@ -10,23 +10,23 @@ module _ (P : ℕ → Type 0) (p? : (k : ℕ) → Dec (P k)) (R : (i k : ℕ) �
   abbrev pub Least : ℕ → ℕ → Type 0
   Least n i = P i × ((k : ℕ) → k < n → P k → R i k)
 
-  abbrev pub None_below : ℕ → Type 0
-  None_below n = (k : ℕ) → k < n → P k → ⊥
+  abbrev pub NoneBelow : ℕ → Type 0
+  NoneBelow n = (k : ℕ) → k < n → P k → ⊥
 
   below : (n : ℕ) (Q : ℕ → Type 0) → ((k : ℕ) → k < n → Q k) → Q n → (k : ℕ) → k < suc n → Q k
   below n Q old new k h = ⊎_elim (λ l. old k l) (λ e. let same : n ≡ k = omega arith in subst Q same new) (le-suc_iff.0 h)
 
-  pub minimum : (n : ℕ) → None_below n ⊎ ((i : ℕ) × Least n i)
+  pub minimum : (n : ℕ) → NoneBelow n ⊎ ((i : ℕ) × Least n i)
   minimum zero = inl (λ k h p. absurd (omega arith))
   minimum (suc n) = go (minimum n) (p? n)
     where
       Out : Type 0
-      Out = None_below (suc n) ⊎ ((i : ℕ) × Least (suc n) i)
+      Out = NoneBelow (suc n) ⊎ ((i : ℕ) × Least (suc n) i)
 
       same : P n → R n n
       same p = ⊎_elim (λ r. r) (λ r. r) (total n n p p)
 
-      go : None_below n ⊎ ((i : ℕ) × Least n i) → Dec (P n) → Out
+      go : NoneBelow n ⊎ ((i : ℕ) × Least n i) → Dec (P n) → Out
       go (inl none) (no m) = inl (below n (λ k. P k → ⊥) none m)
       go (inl none) (yes p) = inr (n, (p, below n (λ k. P k → R n k) (λ k l q. absurd (none k l q)) (λ q. same p)))
       go (inr w) (no m) = inr (w.0, (w.1.0, below n (λ k. P k → R w.0 k) w.1.1 (λ q. absurd (m q))))

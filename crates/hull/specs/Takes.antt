@@ -16,7 +16,7 @@ use Rattle.policy.specs.declared.front.Front.{Front}
 use Rattle.hull.specs.Decide.{filled_below}
 use Rattle.hull.specs.Optimal.{Taken}
 use Rattle.hull.specs.Values.{size}
-use Rattle.hull.specs.Minimum.{minimum, Least, None_below}
+use Rattle.hull.specs.Minimum.{minimum, Least, NoneBelow}
 
 -- ranks go by answer and number, one way
 ranked : IsStrictWeakOrder rank_before
@@ -107,7 +107,7 @@ take_of f r h = go (entry f r) refl h
     t = level f r
 
     first : (a : Answer) → entry f r ≡ Some a
-        → None_below (Filled f t) (filled? f t) (NotAfter f t) (either_way f t) (chain f t) (19 * f.directions)
+        → NoneBelow (Filled f t) (filled? f t) (NotAfter f t) (either_way f t) (chain f t) (19 * f.directions)
         ⊎ ((i : ℕ) × Least (Filled f t) (filled? f t) (NotAfter f t) (either_way f t) (chain f t) (19 * f.directions) i)
         → (k : ℕ) × Taken f k × (level f k ≡ level f r)
     first a held (inl none) = absurd (none r (filled_below f r a held) (a, record { of_level = refl; holds = held }))
