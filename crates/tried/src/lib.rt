@@ -4,6 +4,8 @@
 #[cfg(test)]
 mod answers;
 #[cfg(test)]
+mod edges;
+#[cfg(test)]
 mod intervals;
 #[cfg(test)]
 mod policies;
