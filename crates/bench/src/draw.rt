@@ -1,4 +1,4 @@
-// Readings that look random and are the same at each run.
+// Readings that look random and are the same at each run: those of docs/PERFORMANCE.md, so not `compare`'s generator.
 
 #[derive(Clone, Copy)]
 pub struct Draw {

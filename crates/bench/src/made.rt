@@ -1,11 +1,14 @@
 // Records of runs by Hull, made by playing the runs.
 use crate::draw::Draw;
 use crate::fail::Fail;
+use crate::play::{Play, play_up_to, timed};
 use hull::hull::Hull;
 use order::answer::Answer;
 use search::begin::begin;
 use search::states::{Rest, Round};
-use std::time::{Duration, Instant};
+use std::alloc::AllocError;
+use std::rt::Clock;
+use std::time::Duration;
 use table::rows::{Entry, Row};
 
 // The share of the rounds, in ten thousandths.
@@ -18,92 +21,94 @@ pub struct Made {
     pub fronts: Duration,
 }
 
-fn push_reading(bytes: &mut Vec<u8>, reading: i32) -> Result<(), Fail> {
-    bytes.push(b'V')?;
-    bytes.push(b'L')?;
-    for byte in reading.to_be_bytes() {
-        bytes.push(byte)?;
-    }
-    Ok(())
+// Plays rounds by Hull, and makes the record of them.
+#[derive(Drop)]
+struct Telling<'r, 't, R> {
+    rt: &'r R,
+    table: &'t mut [Row],
+    draw: Draw,
+    made: Made,
 }
 
-fn push_round(bytes: &mut Vec<u8>) -> Result<(), Fail> {
-    bytes.push(b'R')?;
-    bytes.push(b'H')?;
-    for byte in SHARE.to_be_bytes() {
-        bytes.push(byte)?;
+impl Made {
+    // Adds an item.
+    fn tell(&mut self, mark: &[u8], body: &[u8]) -> Result<(), AllocError> {
+        self.bytes.extend_from_slice(mark)?;
+        self.bytes.extend_from_slice(body)
     }
-    Ok(())
+
+    fn tell_reading(&mut self, reading: i32) -> Result<(), AllocError> {
+        self.tell(b"VL", &reading.to_be_bytes())
+    }
 }
 
-// Answers all points of a round right in the table, and tells the answers.
-fn answer_all(
-    round: &Round,
-    table: &mut [Row],
-    draw: &mut Draw,
-    bytes: &mut Vec<u8>,
-) -> Result<(), Fail> {
-    for point in 0..round.points() {
-        let reading = draw.reading();
-        push_reading(bytes, reading)?;
-        if let Some(row) = table.get_mut(round.boxes().saturating_add(point)) {
+impl<R: Clock> Telling<'_, '_, R> {
+    // Answers all points of a round right in the table, and tells the answers.
+    fn answer_all(&mut self, round: &Round) -> Result<(), Fail> {
+        let from = round.boxes();
+        let to = from.saturating_add(round.points());
+        let points = self.table.get_mut(from..to).ok_or(Fail::Other)?;
+        for row in points {
+            let reading = self.draw.reading();
+            self.made.tell_reading(reading)?;
             row.entry = Entry::Answered(Answer::Reading(reading));
         }
+        Ok(())
     }
-    Ok(())
+
+    // Adds the time that forming the front of a search takes.
+    fn time_front(&mut self, rest: &Rest) -> Result<(), Fail> {
+        let rt = self.rt;
+        let shape = rest.shape();
+        let boxes = self.table.get(..rest.boxes()).ok_or(Fail::Other)?;
+        let (front, took) = timed(rt, || Ok(shape.front_of(boxes)))?;
+        if front.readings().is_none() {
+            return Err(Fail::Other);
+        }
+        self.made.fronts = self.made.fronts.checked_add(took).ok_or(Fail::Other)?;
+        Ok(())
+    }
 }
 
-// The time that forming the front of a search takes.
-fn front_time(rt: &HostRuntime, rest: &Rest, table: &[Row]) -> Result<Duration, Fail> {
-    let boxes = table.get(0..rest.boxes()).ok_or(Fail::Other)?;
-    let start = Instant::now(rt)?;
-    let front = rest.shape().front_of(boxes);
-    let took = start.elapsed(rt)?;
-    if front.readings().is_none() {
-        return Err(Fail::Other);
-    }
-    Ok(took)
-}
+impl<R: Clock> Play for Telling<'_, '_, R> {
+    type Rest = Rest;
 
-// Opens, answers and closes one round.
-fn play(rest: Rest, table: &mut [Row], draw: &mut Draw, bytes: &mut Vec<u8>) -> Result<Rest, Fail> {
-    let round = match rest.open(&Hull::new(SHARE)?, table) {
-        Ok(round) => round,
-        Err(refused) => return Err(Fail::Refused(refused.0.number())),
-    };
-    push_round(bytes)?;
-    answer_all(&round, table, draw, bytes)?;
-    match round.close(table) {
-        Ok(rest) => Ok(rest),
-        Err(refused) => Err(Fail::Refused(refused.0.number())),
+    fn boxes(rest: &Rest) -> usize {
+        rest.boxes()
+    }
+
+    // Opens, answers and closes a round.
+    fn round(&mut self, rest: Rest) -> Result<Rest, Fail> {
+        self.time_front(&rest)?;
+        let round = rest.open(&Hull::new(SHARE)?, self.table)?;
+        self.made.tell(b"RH", &SHARE.to_be_bytes())?;
+        self.answer_all(&round)?;
+        Ok(round.close(self.table)?)
     }
 }
 
 // The record of a run with so many answers at least.
 pub fn record_of_run(
-    rt: &HostRuntime,
+    rt: &(impl Clock + AllocGlobal),
     n: u8,
     answers: usize,
     table: &mut [Row],
 ) -> Result<Made, Fail> {
     let mut draw = Draw::new(u64::from(n));
-    let mut bytes = Vec::new(rt.alloc());
-    bytes.push(b'B')?;
-    bytes.push(b'G')?;
-    bytes.push(n)?;
-    bytes.push(19)?;
     let middle = draw.reading();
-    push_reading(&mut bytes, middle)?;
-    let mut rest = begin(n, 19, table, Answer::Reading(middle))?;
-    let mut fronts = Duration::from_millis(0);
-    for _round in 0..answers {
-        if rest.boxes() >= answers {
-            break;
-        }
-        fronts = fronts
-            .checked_add(front_time(rt, &rest, table)?)
-            .ok_or(Fail::Other)?;
-        rest = play(rest, table, &mut draw, &mut bytes)?;
-    }
-    Ok(Made { bytes, fronts })
+    let mut made = Made {
+        bytes: Vec::new(rt.alloc()),
+        fronts: Duration::from_millis(0),
+    };
+    made.tell(b"BG", &[n, 19])?;
+    made.tell_reading(middle)?;
+    let rest = begin(n, 19, table, Answer::Reading(middle))?;
+    let mut telling = Telling {
+        rt,
+        table,
+        draw,
+        made,
+    };
+    let _rest = play_up_to(&mut telling, rest, answers)?;
+    Ok(telling.made)
 }

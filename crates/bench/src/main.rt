@@ -6,6 +6,7 @@ mod draw;
 mod fail;
 mod looks;
 mod made;
+mod play;
 mod replays;
 mod searches;
 mod tables;
@@ -14,10 +15,11 @@ use crate::fail::Fail;
 use crate::looks::time_looks;
 use crate::replays::time_replays;
 use crate::searches::time_searches;
+use std::rt::{Clock, Env};
 use std::{env, io};
 
 // The answers of the longest record: the argument, or as many as rows allow.
-fn longest(rt: &HostRuntime) -> Result<usize, Fail> {
+fn longest(rt: &(impl Env + Alloc)) -> Result<usize, Fail> {
     let mut most = 60_000;
     for word in env::args(rt)?.skip(1) {
         most = word.as_str().parse::<usize>().unwrap_or(most);
@@ -25,7 +27,7 @@ fn longest(rt: &HostRuntime) -> Result<usize, Fail> {
     Ok(most.min(60_000))
 }
 
-fn run(rt: &HostRuntime) -> Result<usize, Fail> {
+fn run(rt: &(impl Clock + Env + Eprint + AllocGlobal)) -> Result<usize, Fail> {
     let most = longest(rt)?;
     let mut alike: usize = 0;
     for answers in [1_000, 8_000, 60_000] {
@@ -47,9 +49,7 @@ fn run(rt: &HostRuntime) -> Result<usize, Fail> {
 fn main(rt: HostRuntime) -> io::Result<()> {
     match run(&rt) {
         Ok(alike) => println!(rt; "runs with the same table in both implementations: {alike}"),
-        Err(Fail::Memory) => println!(rt; "no memory"),
-        Err(Fail::Refused(number)) => println!(rt; "refused {number}"),
-        Err(Fail::Other) => println!(rt; "the implementations differ"),
         Err(Fail::Io(error)) => Err(error),
+        Err(fail) => println!(rt; "{fail}"),
     }
 }

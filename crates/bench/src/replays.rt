@@ -1,63 +1,62 @@
 // Replaying records by both implementations.
 use crate::fail::Fail;
-use crate::made::{Made, record_of_run};
-use crate::tables::{fresh_lines, fresh_rows, same_boxes};
-use reference::lines::Line;
-use reference::replay::{Told, replay as replay_again};
+use crate::made::record_of_run;
+use crate::play::timed;
+use crate::tables::Tables;
+use reference::lines::Table;
+use reference::replay::replay as replay_again;
+use reference::still::Still;
 use search::replay::replay;
-use std::time::{Duration, Instant};
-use table::rows::Row;
+use search::states::Rest;
+use std::rt::Clock;
 
-// Replays a record by the package: the boxes, and the time.
-fn by_the_package(
-    rt: &HostRuntime,
-    record: &[u8],
-    table: &mut [Row],
-) -> Result<(usize, Duration), Fail> {
-    let start = Instant::now(rt)?;
-    match replay(record, table) {
-        Ok(rest) => Ok((rest.boxes(), start.elapsed(rt)?)),
-        Err(refused) => Err(Fail::Refused(refused.why.number())),
-    }
-}
-
-// The same by the second implementation.
-fn by_the_reference(
-    rt: &HostRuntime,
-    record: &[u8],
-    table: &mut [Line],
-) -> Result<(usize, Duration), Fail> {
-    let start = Instant::now(rt)?;
-    match replay_again(rt.alloc(), record, table)? {
-        Told::Run(still) => Ok((still.boxes, start.elapsed(rt)?)),
-        Told::Refused(number, _) => Err(Fail::Refused(number)),
-    }
-}
+// The numbers of directions whose records are replayed.
+const DIRECTIONS: [u8; 3] = [2, 4, 6];
 
 // One record by both.
-fn time_replay(rt: &HostRuntime, n: u8, answers: usize) -> Result<(), Fail> {
-    let mut rows = fresh_rows(rt.alloc())?;
-    let mut lines = fresh_lines(rt.alloc())?;
-    let Made { bytes, fronts } = record_of_run(rt, n, answers, rows.as_mut_slice())?;
-    let (boxes, ours) = by_the_package(rt, bytes.as_slice(), rows.as_mut_slice())?;
-    let (again, theirs) = by_the_reference(rt, bytes.as_slice(), lines.as_mut_slice())?;
-    if boxes != again {
+fn time_replay(
+    rt: &(impl Clock + Eprint + AllocGlobal),
+    n: u8,
+    answers: usize,
+) -> Result<(), Fail> {
+    let heap = rt.alloc();
+    let Tables {
+        mut rows,
+        mut lines,
+    } = Tables::new(heap)?;
+    let made = record_of_run(rt, n, answers, &mut rows)?;
+    let mut table = Table {
+        heap,
+        lines: &mut lines,
+    };
+    let bytes = made.bytes.as_slice();
+    let (rest, ours) = timed(rt, || -> Result<Rest, Fail> {
+        Ok(replay(bytes, &mut rows)?)
+    })?;
+    let (still, theirs) = timed(rt, || -> Result<Still, Fail> {
+        Ok(replay_again(bytes, &mut table)?)
+    })?;
+    let boxes = rest.boxes();
+    if boxes != still.boxes {
         return Err(Fail::Other);
     }
-    same_boxes(rows.as_slice(), lines.as_slice())?;
+    Tables { rows, lines }.same_boxes()?;
     let ours = ours.as_micros();
     let theirs = theirs.as_micros();
-    let fronts = fronts.as_micros();
+    let fronts = made.fronts.as_micros();
     eprintln!(rt;
         "replay n {n} boxes {boxes}: {ours} us, of which fronts {fronts} us; reference {theirs} us"
     )?;
     Ok(())
 }
 
-// Records of so many answers in two, four and six directions.
-pub fn time_replays(rt: &HostRuntime, answers: usize) -> Result<usize, Fail> {
-    for n in [2, 4, 6] {
+// Records of so many answers, by both.
+pub fn time_replays(
+    rt: &(impl Clock + Eprint + AllocGlobal),
+    answers: usize,
+) -> Result<usize, Fail> {
+    for n in DIRECTIONS {
         time_replay(rt, n, answers)?;
     }
-    Ok(3)
+    Ok(DIRECTIONS.len())
 }

@@ -1,77 +1,104 @@
 // Whole searches by the public calls of both implementations.
 use crate::draw::Draw;
 use crate::fail::Fail;
-use crate::tables::{fresh_lines, fresh_rows, same_boxes};
+use crate::play::{Play, play_up_to, timed};
+use crate::tables::Tables;
 use order::answer::Answer;
 use policy::every::Every;
-use reference::lines::Line;
+use reference::frame::Frame;
+use reference::lines::{Answer as Said, Table};
 use reference::policies::Policy;
-use reference::still::begin as begin_again;
+use reference::still::Still;
 use search::begin::begin;
 use search::states::Rest;
-use std::alloc::Global;
-use std::time::Instant;
+use std::rt::Clock;
 use table::rows::Row;
 
-// One round by Every.
-fn round(rest: Rest, table: &mut [Row], draw: &mut Draw) -> Result<Rest, Fail> {
-    let round = match rest.open(&Every {}, table) {
-        Ok(round) => round,
-        Err(refused) => return Err(Fail::Refused(refused.0.number())),
-    };
-    for point in 0..round.points() {
-        round.answer(point, Answer::Reading(draw.reading()), table)?;
+// Plays rounds by Every with the package.
+#[derive(Drop)]
+struct Ours<'a> {
+    table: &'a mut [Row],
+    draw: Draw,
+}
+
+// The same with the second implementation.
+#[derive(Drop)]
+struct Theirs<'a> {
+    table: Table<'a>,
+    draw: Draw,
+}
+
+impl Play for Ours<'_> {
+    type Rest = Rest;
+
+    fn boxes(rest: &Rest) -> usize {
+        rest.boxes()
     }
-    match round.close(table) {
-        Ok(rest) => Ok(rest),
-        Err(refused) => Err(Fail::Refused(refused.0.number())),
+
+    fn round(&mut self, rest: Rest) -> Result<Rest, Fail> {
+        let round = rest.open(&Every {}, self.table)?;
+        for point in 0..round.points() {
+            let answer = Answer::Reading(self.draw.reading());
+            round.answer(point, answer, self.table)?;
+        }
+        Ok(round.close(self.table)?)
+    }
+}
+
+impl Play for Theirs<'_> {
+    type Rest = Still;
+
+    fn boxes(still: &Still) -> usize {
+        still.boxes
+    }
+
+    fn round(&mut self, still: Still) -> Result<Still, Fail> {
+        let going = still.open(Policy::every(), &mut self.table)?;
+        for point in 0..going.points {
+            let answer = Said::Reading(self.draw.reading());
+            going.answer(point, answer, &mut self.table)?;
+        }
+        Ok(going.close(&mut self.table)?)
     }
 }
 
 // A search up to so many boxes.
 fn search(boxes: usize, table: &mut [Row]) -> Result<usize, Fail> {
     let mut draw = Draw::new(7);
-    let mut rest = begin(4, 19, table, Answer::Reading(draw.reading()))?;
-    for _round in 0..boxes {
-        if rest.boxes() >= boxes {
-            break;
-        }
-        rest = round(rest, table, &mut draw)?;
-    }
+    let rest = begin(4, 19, table, Answer::Reading(draw.reading()))?;
+    let rest = play_up_to(&mut Ours { table, draw }, rest, boxes)?;
     Ok(rest.boxes())
 }
 
 // The same by the second implementation.
-fn search_again(heap: Global, boxes: usize, table: &mut [Line]) -> Result<usize, Fail> {
+fn search_again(boxes: usize, mut table: Table<'_>) -> Result<usize, Fail> {
     let mut draw = Draw::new(7);
-    let mut still = begin_again(4, 19, table, Some(draw.reading()))?;
-    for _round in 0..boxes {
-        if still.boxes >= boxes {
-            break;
-        }
-        let going = still.open(heap, Policy::every(), table)?;
-        for point in 0..going.points {
-            going.answer(heap, point, Some(draw.reading()), table)?;
-        }
-        still = going.close(heap, table)?;
-    }
+    let frame = Frame { n: 4, finest: 19 };
+    let still = Still::begin(frame, Said::Reading(draw.reading()), &mut table)?;
+    let still = play_up_to(&mut Theirs { table, draw }, still, boxes)?;
     Ok(still.boxes)
 }
 
 // A search up to so many boxes by both.
-pub fn time_searches(rt: &HostRuntime, boxes: usize) -> Result<usize, Fail> {
-    let mut rows = fresh_rows(rt.alloc())?;
-    let mut lines = fresh_lines(rt.alloc())?;
-    let start = Instant::now(rt)?;
-    let found = search(boxes, rows.as_mut_slice())?;
-    let ours = start.elapsed(rt)?.as_micros();
-    let start = Instant::now(rt)?;
-    let again = search_again(rt.alloc(), boxes, lines.as_mut_slice())?;
-    let theirs = start.elapsed(rt)?.as_micros();
+pub fn time_searches(
+    rt: &(impl Clock + Eprint + AllocGlobal),
+    boxes: usize,
+) -> Result<usize, Fail> {
+    let heap = rt.alloc();
+    let mut tables = Tables::new(heap)?;
+    let rows = tables.rows.as_mut_slice();
+    let (found, ours) = timed(rt, || search(boxes, rows))?;
+    let table = Table {
+        heap,
+        lines: tables.lines.as_mut_slice(),
+    };
+    let (again, theirs) = timed(rt, || search_again(boxes, table))?;
     if found != again {
         return Err(Fail::Other);
     }
-    same_boxes(rows.as_slice(), lines.as_slice())?;
+    tables.same_boxes()?;
+    let ours = ours.as_micros();
+    let theirs = theirs.as_micros();
     eprintln!(rt; "search by the calls, n 4 boxes {found}: {ours} us; reference {theirs} us")?;
     Ok(1)
 }

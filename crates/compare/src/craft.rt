@@ -1,19 +1,25 @@
 // Boxes made up for a table that is then the search's own, so that fronts of every kind come.
+use crate::desk::Desk;
 use crate::draw::Draw;
-use crate::tables::{Tables, answer_of, side};
-use table::rows::{Entry, Row};
+use crate::setting::Setting;
+use crate::tables::cells;
+use reference::lines::{Answer, Line, Side};
 
 // The kinds of readings that a table is given.
 #[derive(Clone, Copy)]
-struct Kind {
-    number: u64,
+enum Kind {
+    Wide,
+    Small,
+    NotFeasible,
+    High,
+    Low,
     // readings grow with the size: a part of the side, three to this power
-    part: u8,
+    InProportion { part: u8 },
 }
 
 // A reading that is in proportion to a side, now and then one off.
 fn in_proportion(draw: &mut Draw, level: u8, part: u8) -> i32 {
-    let share = side(level.saturating_add(part));
+    let share = cells(level.saturating_add(part));
     let times = u32::try_from(draw.below(3)).unwrap_or(0);
     let off = if draw.once_in(4) {
         draw.between(-1, 1)
@@ -24,55 +30,72 @@ fn in_proportion(draw: &mut Draw, level: u8, part: u8) -> i32 {
     reading.saturating_add(off).min(1_000_000_000)
 }
 
-// A reading of a box with a level.
-fn reading(draw: &mut Draw, kind: Kind, level: u8) -> Option<i32> {
-    if draw.once_in(12) {
-        return None;
-    }
-    match kind.number {
-        0 => Some(draw.between(-1_000_000_000, 1_000_000_000)),
-        1 => Some(draw.between(-4, 4)),
-        2 => None,
-        3 => Some(draw.between(999_999_990, 1_000_000_000)),
-        4 => Some(draw.between(-1_000_000_000, -999_999_990)),
-        _ => Some(in_proportion(draw, level, kind.part)),
-    }
-}
-
 // The first cell of an interval of a level.
 fn any_first(draw: &mut Draw, level: u8) -> u32 {
-    let cells = side(level);
-    let count = side(0).checked_div(cells).unwrap_or(0);
+    let side = cells(level);
+    let count = cells(0).checked_div(side).unwrap_or(0);
     let which = u32::try_from(draw.below(u64::from(count))).unwrap_or(0);
-    which.wrapping_mul(cells)
+    which.wrapping_mul(side)
 }
 
-// A box of a search with n directions and a finest level.
-fn any_box(draw: &mut Draw, kind: Kind, n: u8, finest: u8) -> Row {
-    let low = u8::try_from(draw.below(u64::from(finest))).unwrap_or(0);
-    let mut row = Row::whole(Entry::Answered(answer_of(reading(draw, kind, low))));
-    for d in 0..6 {
-        if d < usize::from(n) {
+impl Kind {
+    // Any of them. The part is drawn at each kind.
+    fn any(draw: &mut Draw) -> Kind {
+        let number = draw.below(8);
+        let part = u8::try_from(draw.below(6)).unwrap_or(0);
+        match number {
+            0 => Kind::Wide,
+            1 => Kind::Small,
+            2 => Kind::NotFeasible,
+            3 => Kind::High,
+            4 => Kind::Low,
+            _ => Kind::InProportion { part },
+        }
+    }
+
+    // An answer of a box with a level.
+    fn answer(self, draw: &mut Draw, level: u8) -> Answer {
+        if draw.once_in(12) {
+            return Answer::NotFeasible;
+        }
+        let reading = match self {
+            Kind::Wide => draw.between(-1_000_000_000, 1_000_000_000),
+            Kind::Small => draw.between(-4, 4),
+            Kind::NotFeasible => return Answer::NotFeasible,
+            Kind::High => draw.between(999_999_990, 1_000_000_000),
+            Kind::Low => draw.between(-1_000_000_000, -999_999_990),
+            Kind::InProportion { part } => in_proportion(draw, level, part),
+        };
+        Answer::Reading(reading)
+    }
+
+    // A box of a search.
+    fn any_box(self, draw: &mut Draw, setting: Setting) -> Line {
+        let low = u8::try_from(draw.below(u64::from(setting.frame.finest))).unwrap_or(0);
+        let mut line = Line::whole(Some(self.answer(draw, low)));
+        for side in line.sides.iter_mut().take(setting.frame.directions()) {
             let level = if draw.once_in(3) {
                 low.saturating_add(1)
             } else {
                 low
             };
-            row.levels[d] = level;
-            row.firsts[d] = any_first(draw, level);
+            *side = Side {
+                first: any_first(draw, level),
+                level,
+            };
         }
+        line
     }
-    row
 }
 
-// Replaces the first rows by boxes.
-pub fn craft(tables: &mut Tables, draw: &mut Draw, boxes: usize, n: u8, finest: u8) {
-    let kind = Kind {
-        number: draw.below(8),
-        part: u8::try_from(draw.below(6)).unwrap_or(0),
-    };
-    for place in 0..boxes {
-        let row = any_box(draw, kind, n, finest);
-        tables.set(place, row);
+impl Desk<'_> {
+    // Replaces the first rows by boxes.
+    pub fn craft(&mut self, boxes: usize) {
+        let kind = Kind::any(&mut self.draw);
+        let setting = self.setting;
+        let draw = &mut self.draw;
+        self.own
+            .first(boxes)
+            .fill_with(|| kind.any_box(draw, setting));
     }
 }

@@ -3,20 +3,22 @@ use crate::draw::Draw;
 use crate::halt::Halt;
 use crate::plan::Plan;
 use crate::seen::ROOM;
-use crate::setting::{Setting, plan_at, said_at};
+use crate::setting::{Setting, plan_at};
 use crate::states::{Busy, Calm};
 use crate::tables::Tables;
 use crate::tally::Tally;
+use reference::lines::Answer;
 
 #[derive(Drop)]
-pub struct Desk {
+pub struct Desk<'a> {
+    pub tally: &'a mut Tally,
     pub own: Tables,
-    pub other: Tables,
+    pub other: &'a mut Tables,
     pub draw: Draw,
     pub setting: Setting,
 }
 
-impl Desk {
+impl Desk<'_> {
     // The plan of the next round.
     pub fn plan(&mut self) -> Plan {
         if self.setting.varied {
@@ -27,64 +29,48 @@ impl Desk {
     }
 
     // An answer at a cell.
-    pub fn said(&mut self, cells: &[u32; ROOM]) -> Option<i32> {
-        said_at(self.setting.style, &mut self.draw, cells, self.setting.n)
+    pub fn answer_at(&mut self, cells: &[u32; ROOM]) -> Answer {
+        self.setting.answer_at(&mut self.draw, cells)
     }
 
     // Whether a wrong call comes now.
     pub fn wrong(&mut self) -> bool {
-        self.draw.once_in(self.setting.mischief)
+        match self.setting.mischief {
+            Some(times) => self.draw.once_in(times),
+            None => false,
+        }
+    }
+
+    // Begins the search on the own tables.
+    pub fn begin(&mut self, answer: Answer) -> Result<Option<Calm>, Halt> {
+        self.tally
+            .begin(self.setting.frame, answer, &mut self.own.all())
     }
 
     // The best box.
-    pub fn best(&self, tally: &mut Tally, calm: &Calm) -> Result<(), Halt> {
-        tally.best(calm, &self.own.rows, &self.own.lines)
+    pub fn best(&mut self, calm: &Calm) -> Result<(), Halt> {
+        self.tally.best(calm, &mut self.own.all())
     }
 
     // Opens a round on the first rows of the own tables.
     pub fn open(
         &mut self,
-        tally: &mut Tally,
         calm: Calm,
         plan: Plan,
         upto: usize,
     ) -> Result<Result<Busy, Calm>, Halt> {
-        let rows = upto.min(self.own.rows.len());
-        let lines = upto.min(self.own.lines.len());
-        let rows = &mut self.own.rows[0..rows];
-        let lines = &mut self.own.lines[0..lines];
-        tally.open(calm, plan, rows, lines)
+        self.tally.open(calm, plan, &mut self.own.first(upto))
     }
 
     // Closes a round on the first rows of the own tables.
-    pub fn close(
-        &mut self,
-        tally: &mut Tally,
-        busy: Busy,
-        upto: usize,
-    ) -> Result<Result<Calm, Busy>, Halt> {
-        let rows = upto.min(self.own.rows.len());
-        let lines = upto.min(self.own.lines.len());
-        let rows = &mut self.own.rows[0..rows];
-        let lines = &mut self.own.lines[0..lines];
-        tally.close(busy, rows, lines)
-    }
-
-    // Answers a point on the own tables.
-    pub fn answer(
-        &mut self,
-        tally: &mut Tally,
-        busy: &Busy,
-        point: usize,
-        said: Option<i32>,
-    ) -> Result<(), Halt> {
-        tally.answer(busy, point, said, &mut self.own.rows, &mut self.own.lines)
+    pub fn close(&mut self, busy: Busy, upto: usize) -> Result<Result<Calm, Busy>, Halt> {
+        self.tally.close(busy, &mut self.own.first(upto))
     }
 
     // Locates a point, and answers it.
-    pub fn measure(&mut self, tally: &mut Tally, busy: &Busy, point: usize) -> Result<(), Halt> {
-        let cells = tally.locate(busy, point, ROOM, &self.own.rows, &self.own.lines)?;
-        let said = self.said(&cells);
-        self.answer(tally, busy, point, said)
+    pub fn measure(&mut self, busy: &Busy, point: usize) -> Result<(), Halt> {
+        let cells = self.tally.locate(busy, point, ROOM, &mut self.own.all())?;
+        let answer = self.answer_at(&cells);
+        self.tally.answer(busy, point, answer, &mut self.own.all())
     }
 }

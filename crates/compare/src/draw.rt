@@ -1,4 +1,5 @@
 // Numbers that look random and are the same in every run of the program.
+ghost use Rattle.std.specs.Prelude.{◌<◌, length};
 
 #[derive(Clone, Copy)]
 pub struct Draw {
@@ -24,7 +25,7 @@ impl Draw {
         x.wrapping_mul(0x2545_F491_4F6C_DD1D) >> 16
     }
 
-    // A number below a limit, or 0 where the limit is 0.
+    // A number below a limit, or 0 where the limit is 0. Mostly it is matched at once, and is no kind that is kept.
     pub fn below(&mut self, limit: u64) -> u64 {
         self.number().checked_rem(limit).unwrap_or(0)
     }
@@ -35,14 +36,27 @@ impl Draw {
         usize::try_from(number).unwrap_or(0)
     }
 
-    // True once in so many times, and never at 0.
+    // One of some values.
+    pub fn pick<T: Copy>(&mut self, all: &[T]) -> T
+        requires { 0 < length all.now }
+    {
+        all[(self.number() % all.len() as u64) as usize]
+    }
+
+    // True once in so many times.
     pub fn once_in(&mut self, times: u64) -> bool {
-        times > 0 && self.below(times) == 0
+        self.below(times) == 0
     }
 
     // A byte.
     pub fn byte(&mut self) -> u8 {
         u8::try_from(self.below(256)).unwrap_or(0)
+    }
+
+    // A byte from 1 to another.
+    pub fn up_to(&mut self, most: u8) -> u8 {
+        let number = self.below(u64::from(most));
+        u8::try_from(number).unwrap_or(0).saturating_add(1)
     }
 
     // Any number of 32 bits.

@@ -23,10 +23,11 @@ impl<T: Drop> From<AllocFailed<T>> for Halt {
     }
 }
 
-// The number by which the reference refused.
-pub fn number_of(stop: Stop) -> Result<u8, Halt> {
-    match stop {
-        Stop::Refused(number) => Ok(number),
-        Stop::Memory => Err(Halt::Memory),
+// What a call of the reference gave, unless memory ran out.
+pub fn settled<T, C>(given: Result<T, Stop<C>>) -> Result<Result<T, C>, Halt> {
+    match given {
+        Ok(value) => Ok(Ok(value)),
+        Err(Stop::Refused(cause)) => Ok(Err(cause)),
+        Err(Stop::Memory) => Err(Halt::Memory),
     }
 }

@@ -15,6 +15,7 @@ mod setting;
 mod states;
 mod tables;
 mod tally;
+mod why;
 mod worked;
 
 use crate::halt::Halt;
@@ -22,25 +23,22 @@ use crate::list::all_runs;
 use crate::records::all_records;
 use crate::tally::Tally;
 use crate::worked::examples;
-use std::alloc::Global;
 use std::io;
 
 // Compares all that there is.
-fn compare_all(tally: &mut Tally, heap: Global) -> Result<(), Halt> {
-    examples(tally, heap)?;
-    all_runs(tally, heap)?;
-    all_records(tally, heap)
+fn compare_all(tally: &mut Tally) -> Result<(), Halt> {
+    examples(tally)?;
+    all_runs(tally)?;
+    all_records(tally)
 }
 
 // What was compared.
-fn print_counts(rt: &HostRuntime, tally: &Tally) -> io::Result<()> {
+fn print_counts(rt: &impl Print, tally: &Tally) -> io::Result<()> {
     println!(rt; "runs {}", tally.run)?;
     println!(rt; "calls {}", tally.calls)?;
     print!(rt; "refused calls by number:")?;
-    for number in 1..20 {
-        if tally.refusals[number] > 0 {
-            print!(rt; " {}: {}", number, tally.refusals[number])?;
-        }
+    for (why, count) in &tally.refusals {
+        print!(rt; " {why}: {count}")?;
     }
     println!(rt)?;
     println!(rt;
@@ -51,7 +49,7 @@ fn print_counts(rt: &HostRuntime, tally: &Tally) -> io::Result<()> {
 }
 
 // The first difference, or that there is none.
-fn print_outcome(rt: &HostRuntime, tally: &Tally, outcome: Result<(), Halt>) -> io::Result<()> {
+fn print_outcome(rt: &impl Print, tally: &Tally, outcome: Result<(), Halt>) -> io::Result<()> {
     match outcome {
         Ok(()) => println!(rt; "differences 0"),
         Err(Halt::Memory) => println!(rt; "no memory"),
@@ -67,9 +65,8 @@ fn print_outcome(rt: &HostRuntime, tally: &Tally, outcome: Result<(), Halt>) -> 
 }
 
 fn main(rt: HostRuntime) -> io::Result<()> {
-    let heap = rt.alloc();
-    let mut tally = Tally::new(heap);
-    let outcome = compare_all(&mut tally, heap);
+    let mut tally = Tally::new(rt.alloc());
+    let outcome = compare_all(&mut tally);
     print_counts(&rt, &tally)?;
     print_outcome(&rt, &tally, outcome)
 }

@@ -4,7 +4,7 @@ use policy::cap::Cap;
 use policy::every::Every;
 use policy::policy::Policy;
 use reference::policies::Policy as Second;
-use reference::stop::Stop;
+use reference::stop::Cause;
 use refusal::Refusal;
 use search::states::{Rest, Round};
 use std::fmt;
@@ -14,8 +14,7 @@ use table::rows::Row;
 #[derive(Clone, Copy, PartialEq, Eq)]
 pub struct Plan {
     pub share: Option<u16>,
-    pub cap: Option<u8>,
-    pub outer: Option<u8>,
+    pub caps: [Option<u8>; 2],
 }
 
 impl fmt::Display for Plan {
@@ -24,10 +23,7 @@ impl fmt::Display for Plan {
             Some(share) => write!(f, "hull of {share}")?,
             None => write!(f, "every")?,
         }
-        if let Some(most) = self.cap {
-            write!(f, " under a cap of {most}")?;
-        }
-        if let Some(most) = self.outer {
+        for most in self.caps.into_iter().flatten() {
             write!(f, " under a cap of {most}")?;
         }
         Ok(())
@@ -46,50 +42,44 @@ fn open_under<P: Policy + Drop>(
     };
     match Cap::new(most, policy) {
         Ok(capped) => rest.open(&capped, rows),
-        Err(refused) => Err((refused.0, rest)),
+        Err((why, _)) => Err((why, rest)),
     }
 }
 
 // Opens a round by a policy under two caps, one, or none.
+// A cap of a cap is a type of its own, so no loop goes over the caps.
 fn open_by<P: Policy + Drop>(
     rest: Rest,
     plan: Plan,
     policy: P,
     rows: &mut [Row],
 ) -> Result<Round, (Refusal, Rest)> {
-    let Some(most) = plan.outer else {
-        return open_under(rest, plan.cap, policy, rows);
-    };
-    match Cap::new(plan.cap.unwrap_or(114), policy) {
-        Ok(capped) => open_under(rest, Some(most), capped, rows),
-        Err(refused) => Err((refused.0, rest)),
+    let [inner, outer] = plan.caps;
+    if outer.is_none() {
+        return open_under(rest, inner, policy, rows);
     }
-}
-
-// The number of a refusal to make a cap, or 0.
-fn cap_refused(cap: Option<u8>) -> u8 {
-    let Some(most) = cap else {
-        return 0;
-    };
-    match Cap::new(most, Every {}) {
-        Ok(_) => 0,
-        Err(refused) => refused.0.number(),
+    match Cap::new(inner.unwrap_or(114), policy) {
+        Ok(capped) => open_under(rest, outer, capped, rows),
+        Err((why, _)) => Err((why, rest)),
     }
 }
 
 impl Plan {
-    // The number by which the package refuses to make the policy, or 0.
-    pub fn refused(self) -> u8 {
+    // Every without a cap.
+    pub const EVERY: Plan = Plan {
+        share: None,
+        caps: [None, None],
+    };
+
+    // Makes its policies by the package.
+    pub fn make(self) -> Result<(), Refusal> {
         if let Some(share) = self.share {
-            if let Err(why) = Hull::new(share) {
-                return why.number();
-            }
+            let _ = Hull::new(share)?;
         }
-        let first = cap_refused(self.cap);
-        if first != 0 {
-            return first;
+        for most in self.caps.into_iter().flatten() {
+            let _ = Cap::new(most, Every {})?;
         }
-        cap_refused(self.outer)
+        Ok(())
     }
 
     // Opens a round by the package.
@@ -104,15 +94,12 @@ impl Plan {
     }
 
     // The policy of the reference.
-    pub fn second(self) -> Result<Second, Stop> {
+    pub fn second(self) -> Result<Second, Cause> {
         let mut policy = match self.share {
             Some(share) => Second::hull(share)?,
             None => Second::every(),
         };
-        if let Some(most) = self.cap {
-            policy = policy.capped(most)?;
-        }
-        if let Some(most) = self.outer {
+        for most in self.caps.into_iter().flatten() {
             policy = policy.capped(most)?;
         }
         Ok(policy)

@@ -2,6 +2,8 @@
 use crate::draw::Draw;
 use crate::plan::Plan;
 use crate::seen::ROOM;
+use reference::frame::Frame;
+use reference::lines::Answer;
 use std::fmt;
 
 // Where the answers of a run come from.
@@ -23,10 +25,35 @@ pub enum Style {
     Bowl,
 }
 
+const STYLES: [Style; 7] = [
+    Style::Few,
+    Style::Equal,
+    Style::Wide,
+    Style::Edges,
+    Style::Never,
+    Style::Mixed,
+    Style::Bowl,
+];
+
+// Every where there is no share, else Hull.
+const SHARES: [Option<u16>; 6] = [None, Some(0), Some(1), Some(100), Some(1_000), Some(10_000)];
+
+const CAPS: [Option<u8>; 5] = [None, Some(1), Some(2), Some(3), Some(114)];
+
+// The ends of the range, 0, and "not feasible".
+const EDGES: [Answer; 4] = [
+    Answer::Reading(-1_000_000_000),
+    Answer::Reading(1_000_000_000),
+    Answer::Reading(0),
+    Answer::NotFeasible,
+];
+
+// Numbers that are no readings.
+const WRONG: [i32; 4] = [1_000_000_001, -1_000_000_001, i32::MAX, i32::MIN];
+
 #[derive(Clone, Copy)]
 pub struct Setting {
-    pub n: u8,
-    pub finest: u8,
+    pub frame: Frame,
     pub rows: usize,
     pub rounds: usize,
     pub plan: Plan,
@@ -35,64 +62,48 @@ pub struct Setting {
     pub varied: bool,
     // whether the boxes are replaced by others before each round
     pub crafted: bool,
-    // a wrong call once in so many steps, none at 0
-    pub mischief: u64,
+    // a wrong call once in so many steps, if at all
+    pub mischief: Option<u64>,
 }
 
 impl fmt::Display for Setting {
     fn fmt<W: fmt::Write>(&self, f: &mut fmt::Formatter<W>) -> fmt::Result {
-        let n = self.n;
-        let finest = self.finest;
-        let rows = self.rows;
-        let rounds = self.rounds;
-        let plan = self.plan;
-        write!(
-            f,
-            "n {n} finest {finest} rows {rows} rounds {rounds} {plan}"
-        )?;
-        let style = self.style;
-        let varied = self.varied;
-        let crafted = self.crafted;
-        let mischief = self.mischief;
+        let Setting {
+            frame,
+            rows,
+            rounds,
+            plan,
+            style,
+            varied,
+            crafted,
+            mischief,
+        } = *self;
+        write!(f, "{frame} rows {rows} rounds {rounds} {plan}")?;
         write!(f, " answers {style:?} varied {varied}")?;
-        write!(f, " crafted {crafted} wrong calls 1 in {mischief}")
+        write!(f, " crafted {crafted}")?;
+        match mischief {
+            Some(times) => write!(f, " wrong calls 1 in {times}"),
+            None => write!(f, " no wrong calls"),
+        }
+    }
+}
+
+// Any directions and finest level that a search may have.
+pub fn any_frame(draw: &mut Draw) -> Frame {
+    Frame {
+        n: draw.up_to(6),
+        finest: draw.up_to(19),
     }
 }
 
 // A style by its number.
 pub fn style_at(number: u64) -> Style {
-    match number % 7 {
-        0 => Style::Few,
-        1 => Style::Equal,
-        2 => Style::Wide,
-        3 => Style::Edges,
-        4 => Style::Never,
-        5 => Style::Mixed,
-        _ => Style::Bowl,
-    }
+    STYLES[(number % 7) as usize]
 }
 
-// A share by its number: Every for 0, then Hull.
-fn share_at(number: u64) -> Option<u16> {
-    match number % 6 {
-        0 => None,
-        1 => Some(0),
-        2 => Some(1),
-        3 => Some(100),
-        4 => Some(1_000),
-        _ => Some(10_000),
-    }
-}
-
-// A cap by its number, none for 0.
+// A cap by its number.
 fn cap_at(number: u64) -> Option<u8> {
-    match number % 5 {
-        0 => None,
-        1 => Some(1),
-        2 => Some(2),
-        3 => Some(3),
-        _ => Some(114),
-    }
+    CAPS[(number % 5) as usize]
 }
 
 // How many plans there are with one cap at most.
@@ -101,9 +112,8 @@ pub const PLANS: u64 = 30;
 // A plan by its number; from `PLANS` on with a second cap.
 pub fn plan_at(number: u64) -> Plan {
     Plan {
-        share: share_at(number),
-        cap: cap_at(number / 6),
-        outer: cap_at(number / PLANS),
+        share: SHARES[(number % 6) as usize],
+        caps: [cap_at(number / 6), cap_at(number / PLANS)],
     }
 }
 
@@ -115,52 +125,39 @@ fn square(cell: u32) -> i64 {
 }
 
 // The sum of the squares of the first cells.
-fn bowl(cells: &[u32; ROOM], n: u8) -> Option<i32> {
-    let mut sum: i64 = -1_000;
-    for cell in cells.iter().take(usize::from(n)) {
-        sum = sum.wrapping_add(square(*cell));
-    }
+fn bowl(cells: &[u32; ROOM], frame: Frame) -> Answer {
+    let sum = cells
+        .iter()
+        .take(frame.directions())
+        .fold(-1_000i64, |sum, cell| sum.wrapping_add(square(*cell)));
     if sum > 500_000 {
-        return None;
+        return Answer::NotFeasible;
     }
-    i32::try_from(sum).ok()
+    i32::try_from(sum).map_or(Answer::NotFeasible, Answer::Reading)
 }
 
-// An end of the range, 0, or "not feasible".
-fn edge(draw: &mut Draw) -> Option<i32> {
-    match draw.below(4) {
-        0 => Some(-1_000_000_000),
-        1 => Some(1_000_000_000),
-        2 => Some(0),
-        _ => None,
-    }
-}
-
-// An answer at a cell.
-pub fn said_at(style: Style, draw: &mut Draw, cells: &[u32; ROOM], n: u8) -> Option<i32> {
-    match style {
-        Style::Few => Some(draw.between(0, 3)),
-        Style::Equal => Some(7),
-        Style::Wide => Some(draw.between(-1_000_000_000, 1_000_000_000)),
-        Style::Edges => edge(draw),
-        Style::Never => None,
-        Style::Mixed => {
-            if draw.once_in(4) {
-                None
-            } else {
-                Some(draw.between(-50, 50))
+impl Setting {
+    // An answer at a cell.
+    pub fn answer_at(&self, draw: &mut Draw, cells: &[u32; ROOM]) -> Answer {
+        match self.style {
+            Style::Few => Answer::Reading(draw.between(0, 3)),
+            Style::Equal => Answer::Reading(7),
+            Style::Wide => Answer::Reading(draw.between(-1_000_000_000, 1_000_000_000)),
+            Style::Edges => draw.pick(&EDGES),
+            Style::Never => Answer::NotFeasible,
+            Style::Mixed => {
+                if draw.once_in(4) {
+                    Answer::NotFeasible
+                } else {
+                    Answer::Reading(draw.between(-50, 50))
+                }
             }
+            Style::Bowl => bowl(cells, self.frame),
         }
-        Style::Bowl => bowl(cells, n),
     }
 }
 
 // A number that is no reading.
-pub fn wrong_reading(draw: &mut Draw) -> i32 {
-    match draw.below(4) {
-        0 => 1_000_000_001,
-        1 => -1_000_000_001,
-        2 => i32::MAX,
-        _ => i32::MIN,
-    }
+pub fn wrong_reading(draw: &mut Draw) -> Answer {
+    Answer::Reading(draw.pick(&WRONG))
 }

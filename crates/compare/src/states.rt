@@ -1,9 +1,10 @@
 // The states of both sides together, and their numbers.
-use crate::seen::{Numbers, bits_of};
-use ranks::rank_set::RankSet;
+use crate::seen::{Chosen, Numbers};
+use reference::frame::Frame;
 use reference::going::Going;
 use reference::still::Still;
 use search::states::{Rest, Round};
+use table::shape::Shape;
 
 // Both at rest.
 #[derive(Drop)]
@@ -19,53 +20,47 @@ pub struct Busy {
     pub going: Going,
 }
 
-// The bits of a set of ranks.
-fn bits_in(set: RankSet) -> u128 {
-    let mut bits = 0;
-    for rank in set.members() {
-        bits |= bits_of(&[rank]);
-    }
-    bits
+// A state of one side.
+pub trait State {
+    fn numbers(&self) -> Numbers;
 }
 
-pub fn numbers_of_rest(rest: &Rest) -> Numbers {
-    let shape = rest.shape();
-    Numbers {
-        n: usize::from(shape.n),
-        finest: usize::from(shape.finest),
-        boxes: rest.boxes(),
-        rounds: rest.rounds(),
-        chosen: 0,
-        points: 0,
+// The directions and the finest level of the package's shape; no `From`, as neither type is of this crate.
+fn frame_of(shape: Shape) -> Frame {
+    Frame {
+        n: shape.n,
+        finest: shape.finest,
     }
 }
 
-pub fn numbers_of_round(round: &Round) -> Numbers {
-    let shape = round.shape();
-    Numbers {
-        n: usize::from(shape.n),
-        finest: usize::from(shape.finest),
-        boxes: round.boxes(),
-        rounds: round.rounds(),
-        chosen: bits_in(round.chosen()),
-        points: round.points(),
+impl State for Rest {
+    fn numbers(&self) -> Numbers {
+        Numbers::at_rest(frame_of(self.shape()), self.boxes(), self.rounds())
     }
 }
 
-pub fn numbers_of_still(still: &Still) -> Numbers {
-    Numbers {
-        n: still.n,
-        finest: still.finest,
-        boxes: still.boxes,
-        rounds: still.rounds,
-        chosen: 0,
-        points: 0,
+impl State for Round {
+    fn numbers(&self) -> Numbers {
+        Numbers {
+            chosen: Chosen::of(self.chosen().members()),
+            points: self.points(),
+            ..Numbers::at_rest(frame_of(self.shape()), self.boxes(), self.rounds())
+        }
     }
 }
 
-pub fn numbers_of_going(going: &Going) -> Numbers {
-    let mut numbers = numbers_of_still(&going.before);
-    numbers.chosen = bits_of(&going.chosen);
-    numbers.points = going.points;
-    numbers
+impl State for Still {
+    fn numbers(&self) -> Numbers {
+        Numbers::at_rest(self.frame, self.boxes, self.rounds)
+    }
+}
+
+impl State for Going {
+    fn numbers(&self) -> Numbers {
+        Numbers {
+            chosen: Chosen::of(self.chosen.iter().copied()),
+            points: self.points,
+            ..self.before.numbers()
+        }
+    }
 }

@@ -1,66 +1,86 @@
 // A table of the package and one of the reference, with the same numbers.
 use crate::draw::Draw;
 use crate::halt::Halt;
-use order::answer::Answer;
-use reference::lines::{Line, Mark};
+use order::answer::Answer as Measured;
+use reference::lines::{Answer, Line, Side, Table, WIDTH};
 use std::alloc::Global;
-use table::rows::{Entry, Row};
+use table::rows::{Entry, Row, Span};
 
-#[derive(Drop)]
-pub struct Tables {
-    pub rows: Vec<Row>,
-    pub lines: Vec<Line>,
-}
-
-// An answer of the package.
-pub fn answer_of(said: Option<i32>) -> Answer {
-    match said {
-        Some(x) => Answer::Reading(x),
-        None => Answer::NotFeasible,
+// The answer as the package has it. This and the next two are no `From`: neither side's types are of this crate.
+pub fn measured(answer: Answer) -> Measured {
+    match answer {
+        Answer::Reading(x) => Measured::Reading(x),
+        Answer::NotFeasible => Measured::NotFeasible,
     }
 }
 
-// The mark of an entry.
-fn mark_of(entry: Entry) -> Mark {
-    match entry {
-        Entry::Waiting => Mark::Waits,
-        Entry::Answered(Answer::Reading(x)) => Mark::Reading(x),
-        Entry::Answered(Answer::NotFeasible) => Mark::NotFeasible,
-    }
+// The row of a line. This function and the next are all that knows how a row is made.
+fn row_of(line: &Line) -> Row {
+    let entry = match line.answer {
+        Some(answer) => Entry::Answered(measured(answer)),
+        None => Entry::Waiting,
+    };
+    let mut row = Row::whole(entry);
+    row.spans = line.sides.map(|side| Span {
+        first: side.first,
+        level: side.level,
+    });
+    row
 }
 
 // The line of a row.
 pub fn line_of(row: &Row) -> Line {
-    Line {
-        firsts: row.firsts,
-        levels: row.levels,
-        mark: mark_of(row.entry),
-    }
+    let answer = match row.entry {
+        Entry::Waiting => None,
+        Entry::Answered(Measured::Reading(x)) => Some(Answer::Reading(x)),
+        Entry::Answered(Measured::NotFeasible) => Some(Answer::NotFeasible),
+    };
+    let sides = row.spans.map(|span| Side {
+        first: span.first,
+        level: span.level,
+    });
+    Line { sides, answer }
 }
 
-// Any entry, now and then with a number out of range.
-fn any_entry(draw: &mut Draw) -> Entry {
+// Two lists of one length: each side is lent a slice of rows of its own kind.
+#[derive(Drop)]
+pub struct Tables {
+    rows: Vec<Row>,
+    lines: Vec<Line>,
+}
+
+// The first rows of both tables.
+#[derive(Drop)]
+pub struct Pair<'a> {
+    pub rows: &'a mut [Row],
+    pub lines: &'a mut [Line],
+}
+
+// Any answer or none, now and then a number out of range.
+fn any_answer(draw: &mut Draw) -> Option<Answer> {
     match draw.below(6) {
-        0 => Entry::Waiting,
-        1 => Entry::Answered(Answer::NotFeasible),
-        2 => Entry::Answered(Answer::Reading(draw.between(1_000_000_001, 2_000_000_000))),
-        3 => Entry::Answered(Answer::Reading(draw.between(-2_000_000_000, -1_000_000_001))),
-        _ => Entry::Answered(Answer::Reading(draw.between(-9, 9))),
+        0 => None,
+        1 => Some(Answer::NotFeasible),
+        2 => Some(Answer::Reading(draw.between(1_000_000_001, 2_000_000_000))),
+        3 => Some(Answer::Reading(draw.between(-2_000_000_000, -1_000_000_001))),
+        _ => Some(Answer::Reading(draw.between(-9, 9))),
     }
 }
 
-// A row of any numbers.
-fn any_row(draw: &mut Draw) -> Row {
-    let mut row = Row::whole(any_entry(draw));
-    for d in 0..6 {
-        row.firsts[d] = draw.word();
-        row.levels[d] = draw.byte();
+// A line of any numbers.
+fn any_line(draw: &mut Draw) -> Line {
+    let mut line = Line::whole(any_answer(draw));
+    for side in &mut line.sides {
+        *side = Side {
+            first: draw.word(),
+            level: draw.byte(),
+        };
     }
-    row
+    line
 }
 
 // The cells of a side of a level.
-pub fn side(level: u8) -> u32 {
+pub fn cells(level: u8) -> u32 {
     let mut cells: u32 = 1_162_261_467;
     for _ in 0..level {
         cells /= 3;
@@ -68,20 +88,20 @@ pub fn side(level: u8) -> u32 {
     cells
 }
 
-// Changes one number of a row, mostly by little.
-fn change(draw: &mut Draw, row: &mut Row) {
-    let d = draw.place(6).min(5);
-    let level = row.levels[d];
+// Changes one number of a line, mostly by little.
+fn change(draw: &mut Draw, line: &mut Line) {
+    let d = draw.place(WIDTH).min(WIDTH - 1);
+    let side = &mut line.sides[d];
     match draw.below(10) {
-        0 => row.levels[d] = level.wrapping_add(1),
-        1 => row.levels[d] = level.wrapping_sub(1),
-        2 => row.levels[d] = draw.byte(),
-        3 => row.firsts[d] = row.firsts[d].wrapping_add(side(level)),
-        4 => row.firsts[d] = row.firsts[d].wrapping_sub(side(level)),
-        5 => row.firsts[d] = row.firsts[d].wrapping_add(1),
-        6 => row.firsts[d] = draw.word(),
-        7 => row.levels[d] = 20,
-        _ => row.entry = any_entry(draw),
+        0 => side.level = side.level.wrapping_add(1),
+        1 => side.level = side.level.wrapping_sub(1),
+        2 => side.level = draw.byte(),
+        3 => side.first = side.first.wrapping_add(cells(side.level)),
+        4 => side.first = side.first.wrapping_sub(cells(side.level)),
+        5 => side.first = side.first.wrapping_add(1),
+        6 => side.first = draw.word(),
+        7 => side.level = 20,
+        _ => line.answer = any_answer(draw),
     }
 }
 
@@ -91,33 +111,70 @@ impl Tables {
         let mut rows = Vec::with_capacity(heap, count)?;
         let mut lines = Vec::with_capacity(heap, count)?;
         for _ in 0..count {
-            let row = any_row(draw);
-            lines.push(line_of(&row))?;
-            rows.push(row)?;
+            let line = any_line(draw);
+            rows.push(row_of(&line))?;
+            lines.push(line)?;
         }
         Ok(Tables { rows, lines })
     }
 
-    // The row at a place.
-    pub fn row(&self, place: usize) -> Option<Row> {
-        self.rows.get(place).copied()
+    // The line at a place.
+    pub fn line(&self, place: usize) -> Option<Line> {
+        self.rows.get(place).map(line_of)
     }
 
-    // Writes a row into both tables.
-    pub fn set(&mut self, place: usize, row: Row) {
-        if let Some(old) = self.lines.get_mut(place) {
-            *old = line_of(&row);
-        }
+    // Writes a line into both tables.
+    pub fn set(&mut self, place: usize, line: Line) {
         if let Some(old) = self.rows.get_mut(place) {
-            *old = row;
+            *old = row_of(&line);
+        }
+        if let Some(old) = self.lines.get_mut(place) {
+            *old = line;
         }
     }
 
     // Changes a number at a place in both tables.
     pub fn damage(&mut self, draw: &mut Draw, place: usize) {
-        if let Some(mut row) = self.row(place) {
-            change(draw, &mut row);
-            self.set(place, row);
+        if let Some(mut line) = self.line(place) {
+            change(draw, &mut line);
+            self.set(place, line);
+        }
+    }
+
+    // The first rows of both tables, at most so many.
+    pub fn first(&mut self, most: usize) -> Pair<'_> {
+        let rows = most.min(self.rows.len());
+        let lines = most.min(self.lines.len());
+        Pair {
+            rows: &mut self.rows[..rows],
+            lines: &mut self.lines[..lines],
+        }
+    }
+
+    // All rows of both tables.
+    pub fn all(&mut self) -> Pair<'_> {
+        self.first(usize::MAX)
+    }
+}
+
+impl Pair<'_> {
+    // The table of the reference.
+    pub fn second(&mut self, heap: Global) -> Table<'_> {
+        Table {
+            heap,
+            lines: &mut *self.lines,
+        }
+    }
+
+    // Fills both tables with lines.
+    pub fn fill_with<F: FnMut() -> Line>(self, mut next: F)
+        requires { F.IsAlwaysCallable next }
+    {
+        let Pair { rows, lines } = self;
+        for (row, line) in rows.iter_mut().zip(lines.iter_mut()) {
+            let new = next();
+            *row = row_of(&new);
+            *line = new;
         }
     }
 }

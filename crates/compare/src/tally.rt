@@ -1,11 +1,12 @@
 // What is compared, and what was compared so far.
 use crate::halt::Halt;
-use crate::seen::{Beside, Call, Difference, Seen};
+use crate::seen::{Asked, Beside, Call, Difference, Seen};
 use crate::setting::Setting;
-use crate::tables::line_of;
-use reference::lines::Line;
+use crate::tables::{Pair, line_of};
+use crate::why::Why;
+use reference::stop::Cause;
 use std::alloc::Global;
-use table::rows::Row;
+use std::collections::BTreeMap;
 
 mod calls;
 mod records;
@@ -13,7 +14,7 @@ mod records;
 // What was compared so far.
 #[derive(Drop)]
 pub struct Tally {
-    heap: Global,
+    pub heap: Global,
     // the run at hand, what it is made of, and its calls
     pub run: u64,
     pub setting: Option<Setting>,
@@ -23,18 +24,10 @@ pub struct Tally {
     // the boxes at the ends of the runs: all, and the most of a run
     pub boxes: u64,
     pub most: usize,
-    // how often each number was the refusal of both; 0 stands for accepted calls
-    pub refusals: [u64; 20],
-    // the number of the last refusal, or 0
-    pub last: u8,
-}
-
-// The number of a refusal among what was seen, or 0.
-fn refusal_in(seen: Seen) -> u8 {
-    match seen {
-        Seen::Refused(number) | Seen::RefusedAt(number, _) | Seen::Cells(number, _) => number,
-        _ => 0,
-    }
+    // how often each cause was why both refused
+    pub refusals: BTreeMap<Why, u64>,
+    // why the last call was refused, if it was
+    pub last: Option<Why>,
 }
 
 impl Tally {
@@ -48,8 +41,8 @@ impl Tally {
             rows: 0,
             boxes: 0,
             most: 0,
-            refusals: [0; 20],
-            last: 0,
+            refusals: BTreeMap::new(heap),
+            last: None,
         }
     }
 
@@ -67,69 +60,69 @@ impl Tally {
     }
 
     // A difference at the call at hand.
-    fn differs(&self, call: Call, rows: usize, package: Seen, reference: Seen) -> Halt {
+    fn differs(&self, asked: Asked, package: Seen, beside: Beside, other: Seen) -> Halt {
         Halt::Differs(Difference {
             run: self.run,
             number: self.number,
-            call,
-            rows,
+            asked,
             package,
-            beside: Beside::Reference,
-            reference,
+            beside,
+            other,
         })
+    }
+
+    // Compares what the package gave or has with another.
+    fn compare(
+        &self,
+        asked: Asked,
+        package: Seen,
+        beside: Beside,
+        other: Seen,
+    ) -> Result<(), Halt> {
+        if package == other {
+            Ok(())
+        } else {
+            Err(self.differs(asked, package, beside, other))
+        }
+    }
+
+    // Compares what both gave or have.
+    fn same(&self, asked: Asked, package: Seen, reference: Seen) -> Result<(), Halt> {
+        self.compare(asked, package, Beside::Reference, reference)
     }
 
     // Compares what both gave with what docs/ says.
     pub fn told(&self, call: Call, package: Seen, docs: Seen) -> Result<(), Halt> {
-        if package == docs {
-            return Ok(());
-        }
-        Err(Halt::Differs(Difference {
-            run: self.run,
-            number: self.number,
-            call,
-            rows: 0,
-            package,
-            beside: Beside::Docs,
-            reference: docs,
-        }))
+        self.compare(Asked { call, rows: 0 }, package, Beside::Docs, docs)
     }
 
-    // Compares the last refusal, or 0, with what docs/ says.
-    pub fn told_number(&self, call: Call, number: u8) -> Result<(), Halt> {
-        self.told(call, Seen::Refused(self.last), Seen::Refused(number))
+    // Compares why the last call was refused, if it was, with what docs/ says.
+    pub fn told_why(&self, call: Call, docs: Option<Cause>) -> Result<(), Halt> {
+        let package = self.last.map_or(Seen::Done, Seen::Refused);
+        self.told(call, package, docs.map_or(Seen::Done, Seen::from))
     }
 
     // Counts a call, and compares what both gave.
-    fn see(&mut self, call: Call, package: Seen, reference: Seen, rows: usize) -> Result<(), Halt> {
+    fn see(&mut self, asked: Asked, package: Seen, reference: Seen) -> Result<(), Halt> {
         self.calls = self.calls.saturating_add(1);
         self.number = self.number.saturating_add(1);
-        self.last = refusal_in(package);
-        if let Some(count) = self.refusals.get_mut(usize::from(self.last)) {
+        self.last = package.why();
+        if let Some(why) = self.last {
+            let count = self.refusals.entry(why)?.or_insert(0);
             *count = count.saturating_add(1);
         }
-        self.same(call, package, reference, rows)
-    }
-
-    // Compares what both gave or have.
-    fn same(&self, call: Call, package: Seen, reference: Seen, rows: usize) -> Result<(), Halt> {
-        if package == reference {
-            Ok(())
-        } else {
-            Err(self.differs(call, rows, package, reference))
-        }
+        self.same(asked, package, reference)
     }
 
     // Compares the tables, row by row.
-    fn tables(&mut self, call: Call, rows: &[Row], lines: &[Line]) -> Result<(), Halt> {
-        let count = rows.len();
-        self.same(call, Seen::Rows(count), Seen::Rows(lines.len()), count)?;
+    fn tables(&mut self, asked: Asked, table: &Pair<'_>) -> Result<(), Halt> {
+        let count = table.rows.len();
+        self.same(asked, Seen::Rows(count), Seen::Rows(table.lines.len()))?;
         self.rows = self.rows.saturating_add(u64::try_from(count).unwrap_or(0));
-        for (place, (row, line)) in rows.iter().zip(lines.iter()).enumerate() {
+        for (place, (row, line)) in table.rows.iter().zip(table.lines.iter()).enumerate() {
             let shown = line_of(row);
             if shown != *line {
-                let package = Seen::Row(place, shown);
-                return Err(self.differs(call, count, package, Seen::Row(place, *line)));
+                self.same(asked, Seen::Row(place, shown), Seen::Row(place, *line))?;
             }
         }
         Ok(())

@@ -2,154 +2,147 @@
 use crate::draw::Draw;
 use crate::halt::Halt;
 use crate::plan::Plan;
-use crate::seen::{Call, ROOM, Seen, bits_of};
-use crate::states::{Busy, Calm, numbers_of_round};
-use crate::tables::{Tables, answer_of, line_of};
+use crate::seen::{Call, Chosen, Numbers, ROOM, Seen};
+use crate::states::{Busy, Calm, State};
+use crate::tables::Tables;
 use crate::tally::Tally;
-use std::alloc::Global;
-use table::rows::{Entry, Row};
+use reference::frame::Frame;
+use reference::lines::{Answer, Line, Side};
+use reference::stop::Cause;
 
-const EVERY: Plan = Plan {
-    share: None,
-    cap: None,
-    outer: None,
-};
-
-// A row of two directions.
-fn row_of(reading: i32, firsts: [u32; 2], levels: [u8; 2]) -> Row {
-    let mut row = Row::whole(Entry::Answered(answer_of(Some(reading))));
-    row.firsts[0] = firsts[0];
-    row.firsts[1] = firsts[1];
-    row.levels[0] = levels[0];
-    row.levels[1] = levels[1];
-    row
+// An example on tables of its own.
+#[derive(Drop)]
+struct Example<'a> {
+    tally: &'a mut Tally,
+    tables: Tables,
 }
 
-// A search that has begun; the rules say that it begins.
-fn begun(
-    tally: &mut Tally,
-    n: u8,
-    finest: u8,
-    reading: i32,
-    tables: &mut Tables,
-) -> Result<Calm, Halt> {
-    tally.next_run(None);
-    let said = Some(reading);
-    match tally.begin(n, finest, said, &mut tables.rows, &mut tables.lines)? {
-        Some(calm) => Ok(calm),
-        None => Err(Halt::Stuck),
+// A box of two directions, by the first cell and the level of each.
+fn box_of(reading: i32, sides: [(u32, u8); 2]) -> Line {
+    let mut line = Line::whole(Some(Answer::Reading(reading)));
+    for (side, (first, level)) in line.sides.iter_mut().zip(sides) {
+        *side = Side { first, level };
+    }
+    line
+}
+
+impl Example<'_> {
+    // A search that has begun; the rules say that it begins.
+    fn begun(&mut self, frame: Frame, reading: i32) -> Result<Calm, Halt> {
+        self.tally.next_run(None);
+        let answer = Answer::Reading(reading);
+        self.tally
+            .begin(frame, answer, &mut self.tables.all())?
+            .ok_or(Halt::Stuck)
+    }
+
+    // A try to open a round on the first rows.
+    fn tried(&mut self, calm: Calm, plan: Plan, rows: usize) -> Result<Result<Busy, Calm>, Halt> {
+        self.tally.open(calm, plan, &mut self.tables.first(rows))
+    }
+
+    // A round that opens.
+    fn opened(&mut self, calm: Calm, plan: Plan) -> Result<Busy, Halt> {
+        self.tried(calm, plan, usize::MAX)?.map_err(|_| Halt::Stuck)
+    }
+
+    // A round that closes, after its points have got some readings in their order.
+    fn closed(&mut self, busy: Busy, readings: &[i32]) -> Result<Calm, Halt> {
+        for (point, reading) in readings.iter().enumerate() {
+            let answer = Answer::Reading(*reading);
+            self.tally
+                .answer(&busy, point, answer, &mut self.tables.all())?;
+        }
+        self.tally
+            .close(busy, &mut self.tables.all())?
+            .map_err(|_| Halt::Stuck)
+    }
+
+    // A point of two directions stands where the rules say.
+    fn located(&mut self, busy: &Busy, point: usize, cell: [u32; 2]) -> Result<(), Halt> {
+        let cells = self
+            .tally
+            .locate(busy, point, ROOM, &mut self.tables.all())?;
+        let mut told = cells;
+        told[..2].copy_from_slice(&cell);
+        let call = Call::Locate(point, ROOM);
+        self.tally
+            .told(call, Seen::Cells(None, cells), Seen::Cells(None, told))
+    }
+
+    // A row of the table is as the rules say.
+    fn stands(&self, place: usize, told: Line) -> Result<(), Halt> {
+        let line = self.tables.line(place).ok_or(Halt::Stuck)?;
+        self.tally.told(Call::Close, Seen::Row(place, line), Seen::Row(place, told))
+    }
+
+    // The rows after the first division.
+    fn divided(&self) -> Result<(), Halt> {
+        let third = 387_420_489;
+        let two_thirds = 774_840_978;
+        self.stands(0, box_of(50, [(third, 1), (third, 1)]))?;
+        self.stands(1, box_of(40, [(0, 1), (third, 1)]))?;
+        self.stands(2, box_of(70, [(two_thirds, 1), (third, 1)]))?;
+        self.stands(3, box_of(30, [(0, 0), (0, 1)]))?;
+        self.stands(4, box_of(60, [(0, 0), (two_thirds, 1)]))
     }
 }
 
-// A round that opens.
-fn opened(tally: &mut Tally, calm: Calm, plan: Plan, tables: &mut Tables) -> Result<Busy, Halt> {
-    match tally.open(calm, plan, &mut tables.rows, &mut tables.lines)? {
-        Ok(busy) => Ok(busy),
-        Err(_) => Err(Halt::Stuck),
+impl Tally {
+    // An example on tables of so many rows, drawn from a start value.
+    fn example(&mut self, seed: u64, rows: usize) -> Result<Example<'_>, Halt> {
+        let tables = Tables::new(self.heap, &mut Draw::new(seed), rows)?;
+        Ok(Example {
+            tally: self,
+            tables,
+        })
     }
-}
-
-// A round that closes, after its points have got some readings in their order.
-fn closed(
-    tally: &mut Tally,
-    busy: Busy,
-    readings: &[i32],
-    tables: &mut Tables,
-) -> Result<Calm, Halt> {
-    for (point, reading) in readings.iter().enumerate() {
-        let said = Some(*reading);
-        tally.answer(&busy, point, said, &mut tables.rows, &mut tables.lines)?;
-    }
-    match tally.close(busy, &mut tables.rows, &mut tables.lines)? {
-        Ok(calm) => Ok(calm),
-        Err(_) => Err(Halt::Stuck),
-    }
-}
-
-// A point of two directions stands where the rules say.
-fn located(
-    tally: &mut Tally,
-    busy: &Busy,
-    point: usize,
-    cell: [u32; 2],
-    tables: &Tables,
-) -> Result<(), Halt> {
-    let cells = tally.locate(busy, point, ROOM, &tables.rows, &tables.lines)?;
-    let mut told = cells;
-    told[0] = cell[0];
-    told[1] = cell[1];
-    let call = Call::Locate(point, ROOM);
-    tally.told(call, Seen::Cells(0, cells), Seen::Cells(0, told))
-}
-
-// A row of a table is as the rules say.
-fn stands(tally: &Tally, place: usize, told: Row, tables: &Tables) -> Result<(), Halt> {
-    let Some(row) = tables.row(place) else {
-        return Err(Halt::Stuck);
-    };
-    let shown = Seen::Row(place, line_of(&row));
-    tally.told(Call::Close, shown, Seen::Row(place, line_of(&told)))
-}
-
-// The rows after the first division.
-fn divided(tally: &Tally, tables: &Tables) -> Result<(), Halt> {
-    let third = 387_420_489;
-    stands(tally, 0, row_of(50, [third, third], [1, 1]), tables)?;
-    stands(tally, 1, row_of(40, [0, third], [1, 1]), tables)?;
-    stands(tally, 2, row_of(70, [774_840_978, third], [1, 1]), tables)?;
-    stands(tally, 3, row_of(30, [0, 0], [0, 1]), tables)?;
-    stands(tally, 4, row_of(60, [0, 774_840_978], [0, 1]), tables)
 }
 
 // The first division, and the round by Every after it.
-fn first_division(tally: &mut Tally, heap: Global) -> Result<(), Halt> {
-    let mut tables = Tables::new(heap, &mut Draw::new(1), 11)?;
-    let calm = begun(tally, 2, 19, 50, &mut tables)?;
-    let busy = opened(tally, calm, EVERY, &mut tables)?;
-    located(tally, &busy, 0, [193_710_244, 581_130_733], &tables)?;
-    located(tally, &busy, 1, [968_551_222, 581_130_733], &tables)?;
-    located(tally, &busy, 2, [581_130_733, 193_710_244], &tables)?;
-    located(tally, &busy, 3, [581_130_733, 968_551_222], &tables)?;
-    let calm = closed(tally, busy, &[40, 70, 30, 60], &mut tables)?;
-    divided(tally, &tables)?;
-    let busy = opened(tally, calm, EVERY, &mut tables)?;
+fn first_division(tally: &mut Tally) -> Result<(), Halt> {
+    let mut example = tally.example(1, 11)?;
+    let calm = example.begun(Frame { n: 2, finest: 19 }, 50)?;
+    let busy = example.opened(calm, Plan::EVERY)?;
+    example.located(&busy, 0, [193_710_244, 581_130_733])?;
+    example.located(&busy, 1, [968_551_222, 581_130_733])?;
+    example.located(&busy, 2, [581_130_733, 193_710_244])?;
+    example.located(&busy, 3, [581_130_733, 968_551_222])?;
+    let calm = example.closed(busy, &[40, 70, 30, 60])?;
+    example.divided()?;
+    let busy = example.opened(calm, Plan::EVERY)?;
     // ranks 1 and 2, whose first boxes are rows 3 and 1
-    located(tally, &busy, 0, [193_710_244, 193_710_244], &tables)?;
-    located(tally, &busy, 2, [64_570_081, 581_130_733], &tables)
+    example.located(&busy, 0, [193_710_244, 193_710_244])?;
+    example.located(&busy, 2, [64_570_081, 581_130_733])
 }
 
 // Five rows are enough for the first round of two directions, and four are not.
-fn just_enough(tally: &mut Tally, heap: Global) -> Result<(), Halt> {
-    let mut tables = Tables::new(heap, &mut Draw::new(2), 5)?;
-    let calm = begun(tally, 2, 19, 0, &mut tables)?;
-    if tables.rows.len() < 4 || tables.lines.len() < 4 {
+fn just_enough(tally: &mut Tally) -> Result<(), Halt> {
+    let call = Call::Open(Plan::EVERY);
+    let mut example = tally.example(2, 5)?;
+    let calm = example.begun(Frame { n: 2, finest: 19 }, 0)?;
+    let Err(calm) = example.tried(calm, Plan::EVERY, 4)? else {
         return Err(Halt::Stuck);
-    }
-    let rows = &mut tables.rows[0..4];
-    match tally.open(calm, EVERY, rows, &mut tables.lines[0..4])? {
-        Ok(_) => Err(Halt::Stuck),
-        Err(calm) => {
-            tally.told_number(Call::Open(EVERY), 7)?;
-            let _busy = opened(tally, calm, EVERY, &mut tables)?;
-            tally.told_number(Call::Open(EVERY), 0)
-        }
-    }
+    };
+    example.tally.told_why(call, Some(Cause::NoRoom))?;
+    let _busy = example.opened(calm, Plan::EVERY)?;
+    example.tally.told_why(call, None)
 }
 
 // One direction of finest level 1 is finished after one round.
-fn soon_finished(tally: &mut Tally, heap: Global) -> Result<(), Halt> {
-    let mut tables = Tables::new(heap, &mut Draw::new(3), 9)?;
-    let calm = begun(tally, 1, 1, 5, &mut tables)?;
-    let busy = opened(tally, calm, EVERY, &mut tables)?;
-    let calm = closed(tally, busy, &[4, 6], &mut tables)?;
-    let _refused = tally.open(calm, EVERY, &mut tables.rows, &mut tables.lines)?;
-    tally.told_number(Call::Open(EVERY), 6)
+fn soon_finished(tally: &mut Tally) -> Result<(), Halt> {
+    let mut example = tally.example(3, 9)?;
+    let calm = example.begun(Frame { n: 1, finest: 1 }, 5)?;
+    let busy = example.opened(calm, Plan::EVERY)?;
+    let calm = example.closed(busy, &[4, 6])?;
+    let _refused = example.tried(calm, Plan::EVERY, usize::MAX)?;
+    let call = Call::Open(Plan::EVERY);
+    example.tally.told_why(call, Some(Cause::AllFinished))
 }
 
 // Hull with a share chooses some of the ranks 0, 1 and 2 of one direction.
 fn hull_chooses(
     tally: &mut Tally,
-    heap: Global,
     share: u16,
     readings: [i32; 3],
     last: u8,
@@ -157,51 +150,57 @@ fn hull_chooses(
 ) -> Result<(), Halt> {
     let plan = Plan {
         share: Some(share),
-        cap: None,
-        outer: None,
+        ..Plan::EVERY
     };
-    let mut tables = Tables::new(heap, &mut Draw::new(4), 20)?;
-    let calm = begun(tally, 1, 19, 0, &mut tables)?;
-    let busy = opened(tally, calm, EVERY, &mut tables)?;
-    let calm = closed(tally, busy, &[0, 0], &mut tables)?;
-    tables.set(0, row_of(readings[0], [0, 0], [0, 0]));
-    tables.set(1, row_of(readings[1], [0, 0], [1, 0]));
-    tables.set(2, row_of(readings[2], [0, 0], [last, 0]));
-    let busy = opened(tally, calm, plan, &mut tables)?;
-    let numbers = numbers_of_round(&busy.round);
-    let mut told = numbers;
-    told.chosen = bits_of(ranks);
-    tally.told(Call::Open(plan), Seen::State(numbers), Seen::State(told))
+    let mut example = tally.example(4, 20)?;
+    let calm = example.begun(Frame { n: 1, finest: 19 }, 0)?;
+    let busy = example.opened(calm, Plan::EVERY)?;
+    let calm = example.closed(busy, &[0, 0])?;
+    for (place, (reading, level)) in readings.into_iter().zip([0, 1, last]).enumerate() {
+        let line = box_of(reading, [(0, level), (0, 0)]);
+        example.tables.set(place, line);
+    }
+    let busy = example.opened(calm, plan)?;
+    let numbers = busy.round.numbers();
+    let told = Numbers {
+        chosen: Chosen::of(ranks.iter().copied()),
+        ..numbers
+    };
+    example
+        .tally
+        .told(Call::Open(plan), Seen::State(numbers), Seen::State(told))
 }
 
 // The examples of Hull; two ranks alone stand in three rows with one of them twice.
-fn hulls(tally: &mut Tally, heap: Global) -> Result<(), Halt> {
-    hull_chooses(tally, heap, 0, [22, 10, 6], 2, &[0, 1, 2])?;
-    hull_chooses(tally, heap, 0, [22, 10, 5], 2, &[0, 2])?;
-    hull_chooses(tally, heap, 1_000, [12, 10, 10], 1, &[0, 1])?;
-    hull_chooses(tally, heap, 1_000, [11, 10, 10], 1, &[0])?;
-    hull_chooses(tally, heap, 1_000, [10, 10, 10], 1, &[0])
+fn hulls(tally: &mut Tally) -> Result<(), Halt> {
+    hull_chooses(tally, 0, [22, 10, 6], 2, &[0, 1, 2])?;
+    hull_chooses(tally, 0, [22, 10, 5], 2, &[0, 2])?;
+    hull_chooses(tally, 1_000, [12, 10, 10], 1, &[0, 1])?;
+    hull_chooses(tally, 1_000, [11, 10, 10], 1, &[0])?;
+    hull_chooses(tally, 1_000, [10, 10, 10], 1, &[0])
 }
 
 // The two examples of the order of checks.
-fn first_check_counts(tally: &mut Tally, heap: Global) -> Result<(), Halt> {
+fn first_check_counts(tally: &mut Tally) -> Result<(), Halt> {
     tally.next_run(None);
-    let said = Some(2_000_000_000);
-    let mut none = Tables::new(heap, &mut Draw::new(5), 0)?;
-    let _refused = tally.begin(0, 20, said, &mut none.rows, &mut none.lines)?;
-    tally.told_number(Call::Begin(0, 20, said), 1)?;
-    let mut tables = Tables::new(heap, &mut Draw::new(5), 9)?;
-    let calm = begun(tally, 2, 19, 0, &mut tables)?;
-    let busy = opened(tally, calm, EVERY, &mut tables)?;
-    tally.answer(&busy, 99, said, &mut none.rows, &mut none.lines)?;
-    tally.told_number(Call::Answer(99, said), 4)
+    let frame = Frame { n: 0, finest: 20 };
+    let answer = Answer::Reading(2_000_000_000);
+    let mut none = Tables::new(tally.heap, &mut Draw::new(5), 0)?;
+    let _refused = tally.begin(frame, answer, &mut none.all())?;
+    tally.told_why(Call::Begin(frame, answer), Some(Cause::Directions))?;
+    let mut example = tally.example(5, 9)?;
+    let calm = example.begun(Frame { n: 2, finest: 19 }, 0)?;
+    let busy = example.opened(calm, Plan::EVERY)?;
+    let Example { tally, tables: _ } = example;
+    tally.answer(&busy, 99, answer, &mut none.all())?;
+    tally.told_why(Call::Answer(99, answer), Some(Cause::NoReading))
 }
 
 // All worked examples.
-pub fn examples(tally: &mut Tally, heap: Global) -> Result<(), Halt> {
-    first_division(tally, heap)?;
-    just_enough(tally, heap)?;
-    soon_finished(tally, heap)?;
-    hulls(tally, heap)?;
-    first_check_counts(tally, heap)
+pub fn examples(tally: &mut Tally) -> Result<(), Halt> {
+    first_division(tally)?;
+    just_enough(tally)?;
+    soon_finished(tally)?;
+    hulls(tally)?;
+    first_check_counts(tally)
 }

@@ -9,7 +9,8 @@ use Rattle.table.specs.declared.rows.Entry.TheVariants.{Answered}
 use Rattle.table.specs.declared.rows.Row.{Row}
 use Rattle.search.proofs.Outcomes.{begun_by, closed_by, opened_by}
 use Rattle.search.specs.Calls.{CutAll}
-use Rattle.search.specs.Points.{cut_before, high, low, w_of}
+use Rattle.search.specs.Points.{cut_before, w_of}
+use Rattle.search.specs.declared.side.Side.TheVariants.{Low as low, High as high}
 use Rattle.search.specs.declared.states.Round.{Round}
 use Rattle.examples.specs.Examples.{Right, division, reading}
 use Rattle.examples.proofs.Filling.{filled_by}

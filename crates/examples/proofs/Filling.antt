@@ -1,8 +1,8 @@
 -- The table of a round once its points are answered in their order.
 use Rattle.std.proofs.Common.{◌≡◌, ℕ, ◌+◌, ◌<◌, List, [], ◌∷◌, length, get_or, sym, refl, ap, ◌∙◌, inl, inr, arith, length-append}
 use Rattle.std.proofs.lemmas.List.{get_or_append_left, get_or_push}
+use Rattle.std.proofs.lemmas.Bool.{cases_eq}
 use Rattle.order.specs.declared.answer.Answer.{Answer}
-use Rattle.table.proofs.Sums.{same}
 use Rattle.table.specs.Rows.{row_at}
 use Rattle.table.specs.declared.rows.Entry.TheVariants as entry
 use Rattle.table.specs.declared.rows.Row.{Row}
@@ -24,7 +24,7 @@ filled_by {round} {cleared} (more {before} {after} answers a k o) =
     let old = filled_by k in
     record {
       boxes = λ j l. rows round before (length answers) a after by j l ∙ old.boxes j l;
-      points = λ p d l. elim (same p (length answers)) [
+      points = λ p d l. elim (cases_eq p (length answers)) [
         | inl e ↦
             ap (λ (x : ℕ). (row_at after (round.boxes + x)).entry) e ∙ row_here round before (length answers) a after by
             ∙ ap entry.Answered (sym (get_or_push answers a d p (sym e)))

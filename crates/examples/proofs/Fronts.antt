@@ -6,6 +6,7 @@ use Rattle.std.proofs.lemmas.Bool.{ne_eqb, or_from}
 use Rattle.std.specs.List.{AllByRecursion}
 use Rattle.order.specs.declared.answer.Answer.{Answer}
 use Rattle.policy.specs.Fronts.{IsFront, ends_fit, entry_fits}
+use Rattle.table.proofs.Formed.{none_fits}
 use Rattle.examples.specs.Examples.{ends_of, entries_of, only, reading}
 
 -- some readings and then so many empty entries
@@ -29,12 +30,8 @@ empty_past readings r h = none_past readings (114 - length readings) r h
 abbrev pub Fit : Option (ℤ × ℤ) → ℕ → Type 0
 Fit ends x = entry_fits ends (Some (reading x)) ≡ true
 
-no_entry_fits : (ends : Option (ℤ × ℤ)) → entry_fits ends None ≡ true
-no_entry_fits None = refl
-no_entry_fits (Some ends) = refl
-
 all_fit : (ends : Option (ℤ × ℤ)) (xs : List ℕ) (m r : ℕ) → AllByRecursion (Fit ends) xs → entry_fits ends (get_or (padded xs m) r None) ≡ true
-all_fit ends [] m r h = ap (entry_fits ends) (none_in m r) ∙ no_entry_fits ends
+all_fit ends [] m r h = ap (entry_fits ends) (none_in m r) ∙ none_fits ends
 all_fit ends (x ∷ xs) m zero h = h.0
 all_fit ends (x ∷ xs) m (suc r) h = all_fit ends xs m r h.1
 

@@ -1,6 +1,6 @@
 -- Which ranks the hull chooses at a front of some readings: those of the first ranks are computed, and no other is chosen.
 use Rattle.std.proofs.Common.{◌≡◌, ℕ, zero, suc, ◌*◌, ◌<◌, ◌≤◌, Bool, true, false, List, length, get_or, ℤ, is_some, None, Option, sym, refl, ap, ◌∙◌, subst, inl, inr, arith}
-use Rattle.std.proofs.lemmas.Bool.{true≢false}
+use Rattle.std.proofs.lemmas.Bool.{true≢false, cases_eq, cases_lt}
 use Rattle.std.specs.List.{AllByRecursion}
 use Rattle.order.specs.declared.answer.Answer.{Answer}
 use Rattle.policy.specs.Fronts.{AllFit, EmptyFrom, IsFront, ends_fit}
@@ -8,7 +8,6 @@ use Rattle.policy.specs.Levels.{filled}
 use Rattle.policy.specs.declared.front.Front.{Front}
 use Rattle.hull.specs.Chosen.{hull_sound}
 use Rattle.hull.specs.Decide.{hull_ranks}
-use Rattle.table.proofs.Sums.{less, same}
 use Rattle.examples.specs.Examples.{Right, ends_of, entries_of, hull, only}
 use Rattle.examples.proofs.Fronts.{empty_past, none_listed}
 
@@ -19,7 +18,7 @@ Agrees share chosen f (suc k) = Agrees share chosen f k × (hull_ranks share f k
 
 agrees_at : (share : ℕ) (chosen : List ℕ) (f : Front) (k r : ℕ) → r < k → Agrees share chosen f k → hull_ranks share f r ≡ only chosen r
 agrees_at share chosen f zero r l h = absurd (omega arith)
-agrees_at share chosen f (suc k) r l h = elim (same r k) [
+agrees_at share chosen f (suc k) r l h = elim (cases_eq r k) [
   | inl e ↦ subst (λ x. hull_ranks share f x ≡ only chosen x) (sym e) h.1
   | inr x ↦ agrees_at share chosen f k r (omega arith) h.0
 ]
@@ -60,7 +59,7 @@ module _ (n share : ℕ) (readings chosen : List ℕ) where
       → Agree share chosen (length readings) n (entries_of readings) (ends_of readings) → Right (hull n share readings chosen)
   chooses front below h = (
     front,
-    λ f d e s r. elim (less r (length readings)) [
+    λ f d e s r. elim (cases_lt r (length readings)) [
       | inl l ↦ agrees_at share chosen f (length readings) r l (agrees h f d e s)
       | inr l ↦ not_chosen f e r l (hull_ranks share f r) refl ∙ sym (none_listed chosen (length readings) r below l)
     ],

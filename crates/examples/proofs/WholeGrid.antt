@@ -10,7 +10,9 @@ use Rattle.table.specs.declared.rows.Entry.{Entry}
 use Rattle.table.specs.declared.rows.Entry.TheVariants.{Answered}
 use Rattle.table.specs.declared.rows.Row.{Row}
 use Rattle.search.specs.Calls.{CutAll}
-use Rattle.search.specs.Points.{Given, Side, Taken, cut_before, high, longs_below, low, point_at, w_of}
+use Rattle.search.specs.Points.{Given, Taken, cut_before, longs_below, point_at, w_of}
+use Rattle.search.specs.declared.side.Side.{Side}
+use Rattle.search.specs.declared.side.Side.TheVariants.{Low as low, High as high}
 use Rattle.search.specs.declared.states.Round.{Round}
 
 -- its only box is the whole grid, taken for rank 0

@@ -14,7 +14,7 @@ use Rattle.policy.specs.Levels.{entry, level}
 use Rattle.policy.specs.declared.front.Front.{Front}
 use Rattle.hull.specs.Optimal.{ProductsFit}
 use Rattle.hull.specs.Values.{least, least_in, margin, size, value, value_in}
-use Rattle.hull.specs.Products.{product_le}
+use Rattle.hull.proofs.Products.{product_le}
 
 abbrev Between : ℤ → ℤ → ℤ → Type 0
 Between a b x = (a ≤ℤ x) × (x ≤ℤ b)

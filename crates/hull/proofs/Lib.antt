@@ -1,2 +1,5 @@
 pub mod Bounds
 pub mod Tables
+pub mod Levels
+pub mod Products
+pub mod Slopes

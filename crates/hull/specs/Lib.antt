@@ -3,7 +3,5 @@ pub mod Optimal
 pub mod TakenRanks
 pub mod Values
 pub mod Chosen
-pub mod Slopes
 pub mod Minimum
-pub mod Products
 pub mod Takes

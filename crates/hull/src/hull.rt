@@ -2,11 +2,9 @@
 ghost use Rattle.std.specs.Prelude.{◌≤◌};
 
 pub mod choice;
-mod conditions;
-mod numbers;
 pub mod record;
 pub mod share;
-mod taken;
+mod sizes;
 
 // The share that is all of the least reading, in ten thousandths.
 const WHOLE: u16 = 10_000;

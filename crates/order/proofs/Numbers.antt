@@ -2,7 +2,6 @@
 use Rattle.std.proofs.Common.{◌≡◌, true, false, rules}
 use Rattle.std.specs.Cmp.{IsStrictWeakOrder}
 use Rattle.order.specs.Answers.{Numbered, numbered_before}
-use Rattle.order.proofs.Ranked.{ranks}
 
 pub numbered_irreflexive : (a : Numbered) → numbered_before a a ≡ false
 numbered_irreflexive a = search rules
@@ -14,4 +13,4 @@ pub numbered_total : (a b : Numbered) → numbered_before a b ≡ false → numb
 numbered_total a b p q = search rules
 
 pub ranks_by_answer : {X : Type 0} (key : X → Numbered) → IsStrictWeakOrder (λ (a b : X). numbered_before (key a) (key b))
-ranks_by_answer key = ranks key numbered_before (λ a. numbered_irreflexive (key a)) (λ a b c. numbered_transitive (key a) (key b) (key c)) (λ a b. numbered_total (key a) (key b))
+ranks_by_answer key = record { one_way = λ x y h. search rules; chain = λ x y z p q. search rules }

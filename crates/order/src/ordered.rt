@@ -1,24 +1,24 @@
-// Records whose order is total, by a key.
-ghost use Rattle.std.specs.Prelude.{◌≡◌, Bool, true, false};
+// Records that go by a key, whose order is total.
+ghost use Rattle.std.specs.Prelude.{◌≡◌};
+ghost use Rattle.std.specs.declared.cmp.Ordering.TheVariants.{Equal};
+ghost use Rattle.order.specs.Keys.{before};
 
 pub trait Ordered {
-    // what a record goes by
-    ghost Key: { Type 0 };
+    // what a record goes by; its order is total, by the laws of every `Ord`
+    type Key: Ord + Drop;
 
-    ghost key: { Self → Key };
+    ghost key: { Self → Self.Key };
 
-    ghost before: { Key → Key → Bool };
+    fn key(&self) -> Self::Key
+        ensures { result ≡ key self.now };
 
-    // Whether it is before another.
-    fn precedes(&self, other: &Self) -> bool
-        ensures { result ≡ before (key self.now) (key other.now) };
-
-    // no record is before itself
-    ghost irreflexive: { (a : Self) → before (key a) (key a) ≡ false };
-
-    // before carries over from a to b to c
-    ghost transitive: { (a b c : Self) → before (key a) (key b) ≡ true → before (key b) (key c) ≡ true → before (key a) (key c) ≡ true };
+    // Whether it is before another: whether its key is less.
+    final fn precedes(&self, other: &Self) -> bool
+        ensures { result ≡ before key Self.Key.cmp self.now other.now }
+    {
+        self.key() < other.key()
+    }
 
     // two records with neither before have the same key
-    ghost total: { (a b : Self) → before (key a) (key b) ≡ false → before (key b) (key a) ≡ false → key a ≡ key b };
+    ghost total: { (a b : Self) → Self.Key.cmp (key a) (key b) ≡ Equal → key a ≡ key b };
 }

@@ -1,12 +1,9 @@
 // Boxes, directions and ranks, each by an answer and then by the lower number.
-ghost use Rattle.std.specs.Prelude.{◌≡◌, Option as Entry};
-ghost use Rattle.order.specs.Answers.{Numbered, answer_before, earlier_answer, entry_before, numbered_before};
-ghost use Rattle.order.specs.Records.{candidate_key, direction_key, rank_key};
-ghost use Rattle.order.specs.declared.answer.Answer.{Answer as AnswerKey};
+ghost use Rattle.std.specs.Prelude.{◌≡◌, is_none};
+ghost use Rattle.order.specs.Answers.{earlier_answer};
 ghost use Rattle.std.proofs.Common.{rules};
 
 use crate::answer::Answer;
-use crate::least::first_of;
 use crate::ordered::Ordered;
 
 // A box, by its answer and its row.
@@ -36,106 +33,68 @@ impl Direction {
         ensures w { result.w ≡ earlier_answer low high }
         ensures number { result.number ≡ number }
     {
-        let w = match first_of(&[low, high]) {
-            Some(first) => first,
-            None => low,
-        };
+        let w = low.min(high);
         Direction { w, number }
     }
 }
 
 impl Ordered for Answer {
-    ghost Key = { AnswerKey };
+    type Key = Answer;
 
     ghost key = { λ a. a };
 
-    ghost before = { answer_before };
-
-    ghost irreflexive = { Prim.search rules };
-
-    ghost transitive = { Prim.search rules };
-
     ghost total = { Prim.search rules };
 
-    fn precedes(&self, other: &Answer) -> bool {
-        self.is_before(*other)
+    fn key(&self) -> Answer {
+        *self
     }
 }
 
 // Entries go by their answers, empty ones last; among equal answers `least` takes the earlier place.
 impl Ordered for Option<Answer> {
-    ghost Key = { Entry AnswerKey };
+    type Key = (bool, Option<Answer>);
 
-    ghost key = { λ e. e };
-
-    ghost before = { entry_before };
-
-    ghost irreflexive = { Prim.search rules };
-
-    ghost transitive = { Prim.search rules };
+    ghost key = { λ e. (is_none e, e) };
 
     ghost total = { Prim.search rules };
 
-    fn precedes(&self, other: &Option<Answer>) -> bool {
-        match (*self, *other) {
-            (Some(a), Some(b)) => a.is_before(b),
-            (Some(_), None) => true,
-            (None, _) => false,
-        }
+    fn key(&self) -> (bool, Option<Answer>) {
+        (self.is_none(), *self)
     }
 }
 
 impl Ordered for Candidate {
-    ghost Key = { Numbered };
+    type Key = (Answer, usize);
 
-    ghost key = { candidate_key };
-
-    ghost before = { numbered_before };
-
-    ghost irreflexive = { Prim.search rules };
-
-    ghost transitive = { Prim.search rules };
+    ghost key = { λ c. (c.answer, c.row) };
 
     ghost total = { Prim.search rules };
 
-    fn precedes(&self, other: &Candidate) -> bool {
-        self.answer.is_before_at(self.row, other.answer, other.row)
+    fn key(&self) -> (Answer, usize) {
+        (self.answer, self.row)
     }
 }
 
 impl Ordered for Direction {
-    ghost Key = { Numbered };
+    type Key = (Answer, usize);
 
-    ghost key = { direction_key };
-
-    ghost before = { numbered_before };
-
-    ghost irreflexive = { Prim.search rules };
-
-    ghost transitive = { Prim.search rules };
+    ghost key = { λ d. (d.w, d.number) };
 
     ghost total = { Prim.search rules };
 
-    fn precedes(&self, other: &Direction) -> bool {
-        self.w.is_before_at(self.number, other.w, other.number)
+    fn key(&self) -> (Answer, usize) {
+        (self.w, self.number)
     }
 }
 
 impl Ordered for RankEntry {
-    ghost Key = { Numbered };
+    type Key = (Answer, usize);
 
-    ghost key = { rank_key };
-
-    ghost before = { numbered_before };
-
-    ghost irreflexive = { Prim.search rules };
-
-    ghost transitive = { Prim.search rules };
+    ghost key = { λ e. (e.answer, e.rank) };
 
     ghost total = { Prim.search rules };
 
-    fn precedes(&self, other: &RankEntry) -> bool {
-        self.answer
-            .is_before_at(self.rank, other.answer, other.rank)
+    fn key(&self) -> (Answer, usize) {
+        (self.answer, self.rank)
     }
 }

@@ -1,6 +1,7 @@
 -- The first entry of a level is its first rank by answer and number.
 use Rattle.std.proofs.Common.{◌≡◌, ℕ, ◌+◌, ◌-◌, ◌*◌, ◌/◌, ◌<◌, ◌≤◌, true, false, List, length, get_or, take, drop, Some, None, Option, sym, ap, ◌∙◌, ap₂, ⊎_elim, add-zero, mul_comm, arith}
 use native.Mathlib.Nat.{mul-div-le, lt-div-mul-add, mul-add-div, div-eq_of_lt}
+use Rattle.std.specs.Option.{option_map}
 use Rattle.std.proofs.lemmas.Nat.{mul-le}
 use Rattle.std.proofs.lemmas.List.Edits.{length-between, get_or-between}
 use Rattle.std.proofs.lemmas.Bool.{true≢false, cases_lt, le-ltb, or_from, and_left, and_right, not_from_true}
@@ -43,8 +44,11 @@ module _ (entries : List (Option Answer)) (low high i : ℕ) (order : low ≤ hi
       ap₂ entry_before (sym here) (sym (at e.rank f.from f.below ∙ f.holds))
       ∙ first.earliest (e.rank - low) None (omega (arith, f.from))
 
-  pub rank_first : (a : Answer) → get_or (take (high - low) (drop low entries)) i None ≡ Some a → FirstAmong rank_before (FilledBetween entries low high) (Some (record { answer = a; rank = low + i }))
-  rank_first a is =
+  -- the rank of the first entry, if that is filled, is the first rank
+  pub rank_first : (o : Option Answer) → get_or (take (high - low) (drop low entries)) i None ≡ o
+      → FirstAmong rank_before (FilledBetween entries low high) (option_map (λ a. record { answer = a; rank = low + i }) o)
+  rank_first None is = λ e f. true≢false (ap (entry_before (Some e.answer)) (sym (sym here ∙ is)) ∙ not_before e f)
+  rank_first (Some a) is =
       let held : get_or entries (low + i) None ≡ Some a = sym here ∙ is in (
         record { from = omega arith; below = fits; holds = held },
         λ e f. or_from _ _ (ap (entry_before (Some e.answer)) (sym held) ∙ not_before e f) (⊎_elim
@@ -52,9 +56,6 @@ module _ (entries : List (Option Answer)) (low high i : ℕ) (order : low ≤ hi
             (λ h. and_right _ _ (le-ltb e.rank (low + i) h))
             (cases_lt e.rank (low + i))),
       )
-
-  pub none_filled : get_or (take (high - low) (drop low entries)) i None ≡ None → (e : RankEntry) → FilledBetween entries low high e → ⊥
-  none_filled is e f = true≢false (ap (entry_before (Some e.answer)) (sym (sym here ∙ is)) ∙ not_before e f)
 
 -- the ranks of level t are those from n t up to n t + n
 pub of_level : (f : Front) (t : ℕ) (e : RankEntry) → FilledBetween f.entries (f.directions * t) (f.directions * t + f.directions) e → FilledAt f t e

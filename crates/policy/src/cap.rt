@@ -14,7 +14,6 @@ pub struct Most {
 // The other policy may be any, a cap too.
 #[derive(Drop)]
 pub struct Cap<P> {
-    most: u8,
+    most: Most,
     inner: P,
-    ghost form: { (1 ≤ most) × (most ≤ 114) },
 }

@@ -4,7 +4,7 @@ ghost use Rattle.std.proofs.Common.{rules};
 
 use crate::front::Front;
 use crate::policy::Policy;
-use ranks::rank_set::{RANKS, RankSet};
+use ranks::rank_set::RankSet;
 
 #[derive(Clone, Copy)]
 pub struct Every {}
@@ -17,12 +17,6 @@ impl Policy for Every {
     ghost reaches = { Prim.search rules };
 
     fn choose(&self, front: &Front) -> RankSet {
-        let mut chosen = RankSet::empty();
-        for rank in 0..RANKS {
-            if front.entry(rank).is_some() {
-                chosen.insert(rank);
-            }
-        }
-        chosen
+        front.filled()
     }
 }

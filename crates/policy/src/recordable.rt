@@ -30,7 +30,7 @@ impl Recordable for Every {
 
     ghost body = { 0 };
 
-    const MARK: [u8; 2] = *b"RE";
+    const MARK: [u8; 2] = EVERY_MARK;
 
     const BODY: usize = 0;
 

@@ -4,16 +4,13 @@ use mathlib.Core.Path.{fun_ext}
 use mathlib.Core.Bool.{and-true}
 use Rattle.std.proofs.lemmas.Bool.Decides.{nat_tests}
 use Rattle.std.proofs.lemmas.Bool.{cases_lt, and_right, le-ltb, lt-ltb, ne_eqb}
-use Rattle.ranks.specs.Ranks.{Ranks, none, with}
+use Rattle.ranks.specs.Ranks.{Ranks, with}
 
 -- the ranks of q below i
 abbrev pub up_to : Ranks → ℕ → Ranks
 up_to q i k = q k && ltb k i
 
 module _ (q : Ranks) where
-  pub up_to_none : none ≡ up_to q 0
-  up_to_none = fun_ext (λ k. sym (and_right (q k) (ltb k 0) (le-ltb k 0 (omega arith))))
-
   pub up_to_in : (i : ℕ) → q i ≡ true → with (up_to q i) i ≡ up_to q (i + 1)
   up_to_in i h = fun_ext (λ k. go k (q k) (λ e. ap q e ∙ h))
     where

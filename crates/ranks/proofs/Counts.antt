@@ -1,8 +1,8 @@
 -- Laws of the count of the ranks below a number.
-use Rattle.std.proofs.Common.{◌≡◌, ℕ, zero, suc, ◌+◌, ◌<◌, ◌≤◌, min, Bool, true, false, cond, ltb, ◌⊎◌, sym, refl, ap, ◌∙◌, ap₂, inl, inr, arith}
+use Rattle.std.proofs.Common.{◌≡◌, ℕ, zero, suc, ◌+◌, ◌<◌, ◌≤◌, min, Bool, true, false, cond, ltb, ◌⊎◌, refl, ap, ◌∙◌, ap₂, inl, inr, arith}
 use Rattle.std.proofs.lemmas.Bool.{cases_Bool, cases_eq, and_right, and_left, and_from, cases_lt, lt-ltb, le-ltb}
-use Rattle.ranks.specs.Ranks.{Ranks, none, with, without, count_below, size, lowest_of}
-use Rattle.ranks.proofs.Changes.{with_here, with_other, without_here, without_other}
+use Rattle.ranks.specs.Ranks.{Ranks, without, count_below, size, lowest_of}
+use Rattle.ranks.proofs.Changes.{without_here, without_other}
 
 abbrev one : Bool → ℕ
 one b = cond b 1 0
@@ -35,19 +35,6 @@ module _ (p : Ranks) where
   pub count_strict : (k n : ℕ) → p k ≡ true → k < n → count_below p k < count_below p n
   count_strict k n h l = omega (arith, count_in k h, count_mono (suc k) n l)
 
-  pub count_le : (n : ℕ) → count_below p n ≤ n
-  unfolding count_below
-  count_le zero = omega arith
-  count_le (suc n) = go (count_le n) (cases_Bool (p n))
-    where
-      go : count_below p n ≤ n → (p n ≡ true) ⊎ (p n ≡ false) → count_below p (suc n) ≤ suc n
-      go rest (inl t) = omega (arith, count_in n t)
-      go rest (inr f) = omega (arith, count_out n f)
-
-  pub size_le : size p ≤ 114
-  unfolding size
-  size_le = count_le 114
-
 pub count_same : (p q : Ranks) (n : ℕ) → ((k : ℕ) → k < n → p k ≡ q k) → count_below p n ≡ count_below q n
 unfolding count_below
 count_same p q zero h = refl
@@ -79,20 +66,6 @@ unfolding count_below
 count_empty p zero h = refl
 count_empty p (suc n) h = count_out p n (h n (omega arith)) ∙ count_empty p n (λ k l. h k (omega arith))
 
-pub count_zero : (p : Ranks) (n : ℕ) → count_below p n ≡ 0 → (k : ℕ) → k < n → p k ≡ false
-count_zero p n e k h = go (cases_Bool (p k))
-  where
-    go : (p k ≡ true) ⊎ (p k ≡ false) → p k ≡ false
-    go (inl t) = absurd (omega (arith, count_strict p k n t h))
-    go (inr f) = f
-
-pub count_none : (n : ℕ) → count_below none n ≡ 0
-count_none n = count_empty none n (λ _ _. refl)
-
-pub size_none : size none ≡ 0
-unfolding size
-size_none = count_none 114
-
 -- q has the rank r, and p has not
 count_apart : (p q : Ranks) (r n : ℕ) → p r ≡ false → q r ≡ true → ((k : ℕ) → (k ≡ r → ⊥) → p k ≡ q k) → r < n → count_below q n ≡ count_below p n + 1
 unfolding count_below
@@ -104,17 +77,6 @@ count_apart p q r (suc n) f t same h = go (cases_eq n r) (count_apart p q r n f 
         omega (arith, count_in q n (ap q e ∙ t), count_out p n (ap p e ∙ f), count_same p q n (λ k l. same k (omega arith)))
     go (inr ne) rest = omega (arith, rest (omega arith), ap one (same n ne))
 
-module _ (p : Ranks) (r n : ℕ) (below : r < n) where
-  pub count_with : p r ≡ false → count_below (with p r) n ≡ count_below p n + 1
-  count_with f = count_apart p (with p r) r n f (with_here p r) (λ k ne. sym (with_other p r k ne)) below
-
-  pub count_without : p r ≡ true → count_below p n ≡ count_below (without p r) n + 1
-  count_without t = count_apart (without p r) p r n (without_here p r) t (without_other p r) below
-
-pub size_with : (p : Ranks) (r : ℕ) → r < 114 → p r ≡ false → size (with p r) ≡ size p + 1
-unfolding size
-size_with p r = count_with p r 114
-
 pub size_without : (p : Ranks) (r : ℕ) → r < 114 → p r ≡ true → size p ≡ size (without p r) + 1
 unfolding size
-size_without p r = count_without p r 114
+size_without p r below t = count_apart (without p r) p r 114 (without_here p r) t (without_other p r) below

@@ -1,9 +1,12 @@
 -- The binary digits of a number as a set.
-use Rattle.std.proofs.Common.{◌≡◌, ℕ, zero, suc, ◌+◌, ◌-◌, ◌*◌, ◌/◌, ◌%◌, ◌^◌, ◌<◌, ◌≤◌, Bool, false, cond, not, ◌||◌, eqb, ◌⊎◌, sym, refl, ap, ◌∙◌, subst, ap₂, inl, inr, lt_of_lt_of_le, pow-suc, div-one, mul-div_cancel, add-one, one-add, arith, pow_pos, pow_mono, shr-shr, shr_lt}
+use Rattle.std.proofs.Common.{⊎_elim, max, ◌≡◌, ℕ, zero, suc, ◌+◌, ◌-◌, ◌*◌, ◌/◌, ◌%◌, ◌^◌, ◌<◌, ◌≤◌, Bool, false, cond, not, ◌||◌, eqb, ◌⊎◌, sym, refl, ap, ◌∙◌, subst, ap₂, inl, inr, pow-suc, add-one, arith, pow_pos, shr_lt}
 use native.Mathlib.Nat.{mul-add-div_right, div-eq_of_lt, mul-mod_left}
 use lib.Bits.{bit_and, bit_or, or_shr, or_mod, and_block, and_shifted}
 use lib.Count.{ones, ones_step, count_trailing_zeros}
-use Rattle.std.proofs.lemmas.Bool.{cases_order, and_left, eq-eqb, ne_eqb}
+use Rattle.std.specs.Int.{bit_at}
+use Rattle.std.proofs.lemmas.Nat.Bits.{bit_at_lowest, bit_at-suc, bit_at_above, bit_at_cat_low, bit_at_cat_high, bit_at-pow_same, bit_at-pow_other, bit_at_or, bit_at-lt, same_from_bits_below}
+use Rattle.std.proofs.lemmas.Bool.Decides.{nat_tests}
+use Rattle.std.proofs.lemmas.Bool.{cases_eq, cases_order, and_left, eq-eqb, ne_eqb}
 use Rattle.ranks.specs.Ranks.{bit, without, count_below, Lowest}
 use Rattle.ranks.proofs.Changes.{without_here, without_other}
 use Rattle.ranks.proofs.Counts.{count_first, count_same}
@@ -11,58 +14,40 @@ use Rattle.ranks.proofs.Counts.{count_first, count_same}
 -- the lowest digit, and the others
 pub bit_zero : (n : ℕ) → bit n 0 ≡ eqb (n % 2) 1
 unfolding bit
-bit_zero n = ap (λ (x : ℕ). eqb (x % 2) 1) (div-one n)
+bit_zero n = ap (λ (x : ℕ). eqb x 1) (bit_at_lowest n)
 
 pub bit_suc : (n k : ℕ) → bit n (suc k) ≡ bit (n / 2) k
 unfolding bit
-bit_suc n k = ap (λ (x : ℕ). eqb (x % 2) 1) (ap (λ (x : ℕ). n / 2 ^ x) (sym (one-add k)) ∙ sym (shr-shr n 1 k))
+bit_suc n k = ap (λ (x : ℕ). eqb x 1) (bit_at-suc n k)
 
 -- a number below 2 ^ j has no digit from j on
 pub bit_past : (j n k : ℕ) → n < 2 ^ j → j ≤ k → bit n k ≡ false
 unfolding bit
-bit_past j n k h l =
-    ap (λ (x : ℕ). eqb (x % 2) 1) (div-eq_of_lt (lt_of_lt_of_le h (pow_mono l)))
+bit_past j n k h l = ap (λ (x : ℕ). eqb x 1) (bit_at_above n j k h l)
 
 -- two parts of a number, apart at the digit j
 pub bit_cat_high : (j hi lo k : ℕ) → lo < 2 ^ j → j ≤ k → bit (hi * 2 ^ j + lo) k ≡ bit hi (k - j)
 unfolding bit
-bit_cat_high j hi lo k h l =
-    let e : k ≡ j + (k - j) = omega arith in
-    ap (λ (x : ℕ). eqb (x % 2) 1)
-    (ap (λ (x : ℕ). (hi * 2 ^ j + lo) / 2 ^ x) e ∙ sym (shr-shr (hi * 2 ^ j + lo) j (k - j))
-    ∙ ap (λ (x : ℕ). x / 2 ^ (k - j)) (mul-add-div_right (pow_pos j) hi lo ∙ ap (λ (x : ℕ). hi + x) (div-eq_of_lt h) ∙ native.Mathlib.Nat.add-zero hi))
+bit_cat_high j hi lo k h l = ap (λ (x : ℕ). eqb x 1) (bit_at_cat_high hi j lo k h l)
 
 pub bit_cat_low : (j hi lo k : ℕ) → k < j → bit (hi * 2 ^ j + lo) k ≡ bit lo k
-bit_cat_low zero hi lo k h = absurd (omega arith)
-bit_cat_low (suc j) hi lo zero h =
-    bit_zero (hi * 2 ^ suc j + lo) ∙ ap (λ (x : ℕ). eqb x 1) (lib.Bits.block_odd hi j lo) ∙ sym (bit_zero lo)
-bit_cat_low (suc j) hi lo (suc k) h =
-    bit_suc (hi * 2 ^ suc j + lo) k ∙ ap (λ (x : ℕ). bit x k) (lib.Bits.block_half hi j lo) ∙ bit_cat_low j hi (lo / 2) k (omega arith) ∙ sym (bit_suc lo k)
+unfolding bit
+bit_cat_low j hi lo k h = ap (λ (x : ℕ). eqb x 1) (bit_at_cat_low hi j lo k h)
 
 -- a power of two has one digit
 pub bit_pow : (r k : ℕ) → bit (2 ^ r) k ≡ eqb k r
-bit_pow zero zero = bit_zero 1
-bit_pow zero (suc k) = bit_suc 1 k ∙ bit_past 0 0 k (omega arith) (omega arith) ∙ sym (lib.Dec.eqb-suc-zero k)
-bit_pow (suc r) zero =
-    bit_zero (2 ^ suc r) ∙ ap (λ (x : ℕ). eqb x 1) (ap (λ (x : ℕ). x % 2) (pow-suc 2 r) ∙ mul-mod_left (2 ^ r) 2) ∙ sym (lib.Dec.eqb-zero-suc r)
-bit_pow (suc r) (suc k) =
-    bit_suc (2 ^ suc r) k ∙ ap (λ (x : ℕ). bit x k) (ap (λ (x : ℕ). x / 2) (pow-suc 2 r) ∙ mul-div_cancel (2 ^ r) (omega arith)) ∙ bit_pow r k
-    ∙ sym (lib.Dec.eqb-suc-suc k r)
-
-or_two : (x y : ℕ) → x < 2 → y < 2 → eqb (bit_or x y) 1 ≡ (eqb x 1 || eqb y 1)
-or_two zero zero h l = refl
-or_two zero (suc zero) h l = refl
-or_two (suc zero) zero h l = refl
-or_two (suc zero) (suc zero) h l = refl
-or_two zero (suc (suc y)) h l = absurd (omega arith)
-or_two (suc zero) (suc (suc y)) h l = absurd (omega arith)
-or_two (suc (suc x)) y h l = absurd (omega arith)
+unfolding bit
+bit_pow r k = ⊎_elim
+    (λ e. ap (λ (x : ℕ). bit (2 ^ r) x) e ∙ ap (λ (x : ℕ). eqb x 1) (bit_at-pow_same r) ∙ sym (eq-eqb k r e))
+    (λ ne. ap (λ (x : ℕ). eqb x 1) (bit_at-pow_other r k ne) ∙ sym (ne_eqb k r ne))
+    (cases_eq k r)
 
 pub bit_of_or : (a b k : ℕ) → bit (bit_or a b) k ≡ (bit a k || bit b k)
 unfolding bit
-bit_of_or a b k =
-    ap (λ (x : ℕ). eqb x 1) (ap (λ (x : ℕ). x % 2) (or_shr a b k) ∙ or_mod (a / 2 ^ k) (b / 2 ^ k) 1)
-    ∙ or_two (a / 2 ^ k % 2) (b / 2 ^ k % 2) (omega arith) (omega arith)
+bit_of_or a b k = ap (λ (x : ℕ). eqb x 1) (bit_at_or a b k) ∙ either (bit_at a k) (bit_at b k) (bit_at-lt a k) (bit_at-lt b k)
+  where
+    either : (x y : ℕ) → x < 2 → y < 2 → eqb (max x y) 1 ≡ (eqb x 1 || eqb y 1)
+    either x y h l = grind (arith, nat_tests)
 
 half_below : (k n : ℕ) → n < 2 ^ suc k → n / 2 < 2 ^ k
 half_below k n h = shr_lt k 1 (subst (λ (x : ℕ). n < 2 ^ x) (sym (add-one k)) h)
@@ -87,17 +72,11 @@ count_bits (suc k) n h =
 
 -- numbers of j digits that agree in each are the same
 pub same_digits : (j a b : ℕ) → a < 2 ^ j → b < 2 ^ j → ((k : ℕ) → k < j → bit a k ≡ bit b k) → a ≡ b
-same_digits zero a b h l same = omega arith
-same_digits (suc j) a b h l same =
-    let rest : a / 2 ≡ b / 2 = same_digits j (a / 2) (b / 2) (half_below j a h) (half_below j b l) (λ k m. next k (same (suc k) (omega arith))) in
-    let last : a % 2 ≡ b % 2 = first (same 0 (omega arith)) in
-    omega arith
+unfolding bit
+same_digits j a b h l same = same_from_bits_below j a b h l (λ k m. one (bit_at a k) (bit_at b k) (bit_at-lt a k) (bit_at-lt b k) (same k m))
   where
-    next : (k : ℕ) → bit a (suc k) ≡ bit b (suc k) → bit (a / 2) k ≡ bit (b / 2) k
-    next k e = sym (bit_suc a k) ∙ e ∙ bit_suc b k
-
-    first : bit a 0 ≡ bit b 0 → a % 2 ≡ b % 2
-    first e = sym (digit_of a) ∙ ap (λ (d : Bool). cond d 1 0) (sym (bit_zero a) ∙ e ∙ bit_zero b) ∙ digit_of b
+    one : (x y : ℕ) → x < 2 → y < 2 → eqb x 1 ≡ eqb y 1 → x ≡ y
+    one x y h l e = grind (arith, nat_tests)
 
 -- the lowest digit of n that is set is the digit t, which is below k
 abbrev pub Form : ℕ → ℕ → ℕ → Type 0

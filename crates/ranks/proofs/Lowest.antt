@@ -1,10 +1,9 @@
 -- The lowest ranks of a set.
-use Rattle.std.proofs.Common.{◌≡◌, ℕ, zero, suc, ◌+◌, ◌<◌, ◌≤◌, Bool, true, false, not, ◌&&◌, ◌||◌, eqb, ltb, leb, ◌⊎◌, sym, refl, ap, ◌∙◌, subst, inl, inr, arith}
+use Rattle.std.proofs.Common.{◌≡◌, ℕ, zero, suc, ◌+◌, ◌<◌, ◌≤◌, Bool, true, false, not, ◌&&◌, ◌||◌, eqb, ltb, leb, ◌⊎◌, refl, ap, ◌∙◌, subst, inl, inr, sym, arith}
 use mathlib.Core.Path.{fun_ext}
-use mathlib.Core.Bool.{and-true}
 use native.Mathlib.Nat.{le-suc_iff}
 use Rattle.std.proofs.lemmas.Bool.Decides.{nat_tests}
-use Rattle.std.proofs.lemmas.Bool.{cases_order, cases_Bool, cases_lt, both_ways, and_parts, and_cases, and_from, and_left, and_right, leb-true, leb-false, lt-ltb, le-ltb, ne_eqb}
+use Rattle.std.proofs.lemmas.Bool.{cases_order, cases_Bool, cases_lt, both_ways, and_parts, and_cases, and_from, and_left, leb-true, leb-false, lt-ltb, ne_eqb}
 use Rattle.ranks.specs.Ranks.{Ranks, none, with, without, count_below, size, Lowest, lowest_of}
 use Rattle.ranks.proofs.Counts.{count_in, count_out, count_empty, count_strict}
 
@@ -137,9 +136,3 @@ module _ (p : Ranks) where
       go : (b : Bool) (c : ℕ) → (b && leb i c) ≡ false → (b && ltb c i) ≡ (b && ltb c m)
       go true c f = grind (arith, nat_tests)
       go false c f = refl
-
-  pub kept_none : none ≡ lowest_of 0 p
-  kept_none = fun_ext (λ k. sym (and_right (p k) (ltb (count_below p k) 0) (le-ltb (count_below p k) 0 (omega arith))))
-
-  pub rest_all : p ≡ after 0
-  rest_all = fun_ext (λ k. sym (ap (λ (b : Bool). p k && b) (lib.Dec.leb-zero (count_below p k)) ∙ and-true (p k)))

@@ -1,13 +1,11 @@
 -- Rank sets and the ranks in them.
 use Rattle.std.proofs.Common.{Decides, nat_eq, ◌≡◌, ℕ, ◌^◌, ◌<◌, ◌≤◌, true, false, ◌⊎◌, ap, inl, inr, arith}
-use mathlib.Core.Path.{fun_ext}
 use mathlib.Core.HLevel.{is_prop→PathP}
 use native.Mathlib.Bridge.{le_prop}
 use Rattle.std.proofs.lemmas.Bool.{cases_lt, both_ways, and_parts, eqb-true, eq-eqb}
 use Rattle.std.specs.Cmp.Derive.{both_true}
 use Rattle.ranks.specs.declared.rank_set.RankSet.{RankSet}
-use Rattle.ranks.specs.Ranks.{ranks, word, words_equal, none, size}
-use Rattle.ranks.proofs.Counts.{count_zero}
+use Rattle.ranks.specs.Ranks.{ranks, word, words_equal}
 use Rattle.ranks.proofs.Digits.{bit_past, same_digits}
 
 word_bound : (s : RankSet) → word s < 2 ^ 114
@@ -44,18 +42,6 @@ same_members a b h =
 
 pub same_words : (a b : RankSet) → ranks a ≡ ranks b → a ≡ b
 same_words a b e = same_members a b (λ k _. ap (λ p. p k) e)
-
-pub same_ranks : (a b : RankSet) → ((k : ℕ) → k < 114 → ranks a k ≡ ranks b k) → ranks a ≡ ranks b
-same_ranks a b h = ap ranks (same_members a b h)
-
--- a set of no rank is empty
-pub size_zero : (s : RankSet) → size (ranks s) ≡ 0 → ranks s ≡ none
-unfolding size
-size_zero s e = fun_ext (λ k. go k (cases_lt k 114))
-  where
-    go : (k : ℕ) → (k < 114) ⊎ (114 ≤ k) → ranks s k ≡ false
-    go k (inl l) = count_zero (ranks s) 114 e k l
-    go k (inr g) = past s k g
 
 -- `==` of two sets is true exactly where they have the same ranks
 pub words_equal-Decides : (s t : RankSet) → Decides (words_equal s t) (ranks s ≡ ranks t)

@@ -2,6 +2,7 @@
 use order::answer::Answer;
 
 // A policy as a record names it: a hull by its share, any number that two bytes hold.
+// As an `Option` of the share it would not say which policy has none.
 #[derive(Clone, Copy)]
 pub enum Named {
     Every,

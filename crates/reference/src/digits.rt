@@ -1,54 +1,42 @@
 // Intervals as ternary digits, the highest first. The level is how many there are.
-use super::stop::Stop;
-use std::alloc::Global;
+use super::lines::Side;
+use std::alloc::{AllocError, Global};
+use std::iter;
 
 // The digits of a cell of a direction.
 pub const MOST: usize = 19;
 
-pub type Digits = Vec<u8>;
-
-// The last ternary digit of a number.
-fn last_digit(number: u32) -> u8 {
-    match number % 3 {
-        0 => 0,
-        1 => 1,
-        _ => 2,
-    }
+// A third of an interval; as a number it is a ternary digit.
+#[derive(Clone, Copy, Debug, PartialEq, Eq)]
+pub enum Third {
+    Low = 0,
+    Middle = 1,
+    High = 2,
 }
 
+const THIRDS: [Third; 3] = [Third::Low, Third::Middle, Third::High];
+
+pub type Digits = Vec<Third>;
+
 // The nineteen digits of a number, or none where it has more.
-fn spelled(heap: Global, number: u32) -> Result<Option<Digits>, Stop> {
+fn spelled(heap: Global, number: u32) -> Result<Option<Digits>, AllocError> {
     let mut digits = Vec::with_capacity(heap, MOST)?;
     let mut rest = number;
     for _ in 0..MOST {
-        digits.push(last_digit(rest))?;
+        digits.push(THIRDS[(rest % 3) as usize])?;
         rest /= 3;
     }
     digits.reverse();
-    if rest == 0 {
-        Ok(Some(digits))
-    } else {
-        Ok(None)
-    }
-}
-
-// Whether all digits from a place on are 0.
-fn ends_in_zeros(digits: &[u8], from: usize) -> bool {
-    for digit in digits.iter().skip(from) {
-        if *digit != 0 {
-            return false;
-        }
-    }
-    true
+    Ok((rest == 0).then_some(digits))
 }
 
 // The interval of a first cell and a level, or none where they are no interval.
-pub fn interval(heap: Global, first: u32, level: u8) -> Result<Option<Digits>, Stop> {
-    let level = usize::from(level);
-    let Some(mut digits) = spelled(heap, first)? else {
+pub fn interval(heap: Global, side: Side) -> Result<Option<Digits>, AllocError> {
+    let level = usize::from(side.level);
+    let Some(mut digits) = spelled(heap, side.first)? else {
         return Ok(None);
     };
-    if level > MOST || !ends_in_zeros(&digits, level) {
+    if level > MOST || digits.iter().skip(level).any(|third| *third != Third::Low) {
         return Ok(None);
     }
     digits.truncate(level);
@@ -56,28 +44,35 @@ pub fn interval(heap: Global, first: u32, level: u8) -> Result<Option<Digits>, S
 }
 
 // The number of the digits with one digit after them as often as there is room.
-fn filled(digits: &[u8], with: u8) -> u32 {
-    let mut number: u32 = 0;
-    for place in 0..MOST {
-        let digit = digits.get(place).copied().unwrap_or(with);
-        number = number.wrapping_mul(3).wrapping_add(u32::from(digit));
-    }
-    number
-}
-
-// The first cell.
-pub fn first_cell(digits: &[u8]) -> u32 {
-    filled(digits, 0)
+fn filled(digits: &[Third], with: Third) -> u32 {
+    digits
+        .iter()
+        .copied()
+        .chain(iter::repeat(with))
+        .take(MOST)
+        .fold(0u32, |number, third| {
+            number.wrapping_mul(3).wrapping_add(third as u32)
+        })
 }
 
 // The middle cell: in the middle third, of that in the middle third, and so on.
-pub fn middle_cell(digits: &[u8]) -> u32 {
-    filled(digits, 1)
+pub fn middle_cell(digits: &[Third]) -> u32 {
+    filled(digits, Third::Middle)
 }
 
-// A third of an interval: 0 is the low one, 1 the middle, 2 the high one.
-pub fn third(heap: Global, digits: &[u8], which: u8) -> Result<Digits, Stop> {
+// A third of an interval.
+pub(crate) fn part(heap: Global, digits: &[Third], which: Third) -> Result<Digits, AllocError> {
     let mut all = Vec::from_slice(heap, digits)?;
     all.push(which)?;
     Ok(all)
+}
+
+// The first cell and the level of an interval.
+impl From<&Digits> for Side {
+    fn from(digits: &Digits) -> Side {
+        Side {
+            first: filled(digits, Third::Low),
+            level: u8::try_from(digits.len()).unwrap_or(0),
+        }
+    }
 }

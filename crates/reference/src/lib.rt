@@ -5,6 +5,7 @@
 
 pub mod cutting;
 pub mod digits;
+pub mod frame;
 pub mod front;
 pub mod going;
 pub mod hull;

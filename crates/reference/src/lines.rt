@@ -1,4 +1,6 @@
 // The lines of the reference's table: plain numbers.
+use super::stop::Cause;
+use std::alloc::Global;
 use std::fmt;
 
 // How many directions a line has numbers for.
@@ -9,87 +11,103 @@ const LOWEST: i32 = -1_000_000_000;
 
 const HIGHEST: i32 = 1_000_000_000;
 
-// What stands beside the numbers.
-#[derive(Clone, Copy, PartialEq, Eq)]
-pub enum Mark {
-    Waits,
+// What is measured at a point. The order of the search is the derived one: readings rise, and "not feasible" is last;
+// an `Option` would put it first.
+#[derive(Clone, Copy, Debug, PartialEq, Eq, PartialOrd, Ord)]
+pub enum Answer {
     Reading(i32),
     NotFeasible,
 }
 
-#[derive(Clone, Copy, PartialEq, Eq)]
+// A first cell and a level.
+#[derive(Clone, Copy, Debug, PartialEq, Eq)]
+pub struct Side {
+    pub first: u32,
+    pub level: u8,
+}
+
+// A box and its answer, none where it waits.
+#[derive(Clone, Copy, Debug, PartialEq, Eq)]
 pub struct Line {
-    pub firsts: [u32; WIDTH],
-    pub levels: [u8; WIDTH],
-    pub mark: Mark,
+    pub sides: [Side; WIDTH],
+    pub answer: Option<Answer>,
 }
 
-// An answer: a number, or none for "not feasible".
-pub type Said = Option<i32>;
+// The caller's table, with the memory for what is worked out from it.
+#[derive(Drop)]
+pub struct Table<'a> {
+    pub heap: Global,
+    pub lines: &'a mut [Line],
+}
 
-// Whether an answer may be given.
-pub fn may_be_said(said: Said) -> bool {
-    match said {
-        Some(x) => LOWEST <= x && x <= HIGHEST,
-        None => true,
+impl Answer {
+    // The reading, if it is one.
+    pub fn reading(self) -> Option<i32> {
+        match self {
+            Answer::Reading(x) => Some(x),
+            Answer::NotFeasible => None,
+        }
+    }
+
+    // Whether it may be given.
+    fn is_allowed(self) -> bool {
+        self.reading().is_none_or(|x| LOWEST <= x && x <= HIGHEST)
+    }
+
+    // The same as a check.
+    pub fn allowed(self) -> Result<Answer, Cause> {
+        if self.is_allowed() {
+            Ok(self)
+        } else {
+            Err(Cause::NoReading)
+        }
     }
 }
 
-// The number by which an answer goes: above all readings where it has none.
-pub fn key(said: Said) -> i64 {
-    match said {
-        Some(x) => i64::from(x),
-        None => i64::MAX,
-    }
-}
-
-// The mark of an answer.
-pub fn as_mark(said: Said) -> Mark {
-    match said {
-        Some(x) => Mark::Reading(x),
-        None => Mark::NotFeasible,
-    }
+impl Side {
+    // All cells of a direction.
+    pub const WHOLE: Side = Side { first: 0, level: 0 };
 }
 
 impl Line {
     // The whole grid.
-    pub fn whole(mark: Mark) -> Line {
+    pub fn whole(answer: Option<Answer>) -> Line {
         Line {
-            firsts: [0; WIDTH],
-            levels: [0; WIDTH],
-            mark,
+            sides: [Side::WHOLE; WIDTH],
+            answer,
         }
     }
 
     // The answer beside the numbers, or none where it waits or reads so.
-    pub fn said(&self) -> Option<Said> {
-        let said = match self.mark {
-            Mark::Waits => return None,
-            Mark::Reading(x) => Some(x),
-            Mark::NotFeasible => None,
-        };
-        if may_be_said(said) { Some(said) } else { None }
+    pub fn said(&self) -> Option<Answer> {
+        self.answer.filter(|answer| answer.is_allowed())
     }
 }
 
-impl fmt::Display for Mark {
+impl fmt::Display for Answer {
     fn fmt<W: fmt::Write>(&self, f: &mut fmt::Formatter<W>) -> fmt::Result {
         match self {
-            Mark::Waits => write!(f, "waits"),
-            Mark::Reading(x) => write!(f, "{x}"),
-            Mark::NotFeasible => write!(f, "-"),
+            Answer::Reading(x) => write!(f, "{x}"),
+            Answer::NotFeasible => write!(f, "-"),
         }
+    }
+}
+
+impl fmt::Display for Side {
+    fn fmt<W: fmt::Write>(&self, f: &mut fmt::Formatter<W>) -> fmt::Result {
+        let Side { first, level } = *self;
+        write!(f, "{first}/{level}")
     }
 }
 
 impl fmt::Display for Line {
     fn fmt<W: fmt::Write>(&self, f: &mut fmt::Formatter<W>) -> fmt::Result {
-        let mark = self.mark;
-        write!(f, "{mark}")?;
-        for d in 0..WIDTH {
-            let first = self.firsts[d];
-            let level = self.levels[d];
-            write!(f, " {first}/{level}")?;
+        match self.answer {
+            Some(answer) => write!(f, "{answer}")?,
+            None => write!(f, "waits")?,
+        }
+        for side in &self.sides {
+            write!(f, " {side}")?;
         }
         Ok(())
     }

@@ -1,23 +1,14 @@
 // The policies: Every, Hull, and caps of them.
 use super::front::Front;
 use super::hull::hull_ranks;
-use super::stop::Stop;
-use std::alloc::Global;
+use super::stop::Cause;
+use std::alloc::{AllocError, Global};
 
 // Hull where there is a share, else Every; under a cap where there is one.
-#[derive(Clone, Copy)]
+#[derive(Clone, Copy, Debug, PartialEq, Eq)]
 pub struct Policy {
     share: Option<u16>,
     most: Option<u8>,
-}
-
-// The ranks of a front, rising.
-fn every_rank(heap: Global, front: &Front) -> Result<Vec<usize>, Stop> {
-    let mut ranks = Vec::new(heap);
-    for ticket in front.firsts.iter() {
-        ranks.push(ticket.rank)?;
-    }
-    Ok(ranks)
 }
 
 impl Policy {
@@ -28,9 +19,9 @@ impl Policy {
         }
     }
 
-    pub fn hull(share: u16) -> Result<Policy, Stop> {
+    pub fn hull(share: u16) -> Result<Policy, Cause> {
         if share > 10_000 {
-            return Err(Stop::Refused(12));
+            return Err(Cause::Share);
         }
         Ok(Policy {
             share: Some(share),
@@ -39,25 +30,22 @@ impl Policy {
     }
 
     // A cap of this policy; the lower of two caps counts.
-    pub fn capped(self, most: u8) -> Result<Policy, Stop> {
+    pub fn capped(self, most: u8) -> Result<Policy, Cause> {
         if most == 0 || most > 114 {
-            return Err(Stop::Refused(13));
+            return Err(Cause::Cap);
         }
-        let most = match self.most {
-            Some(inner) => inner.min(most),
-            None => most,
-        };
+        let most = self.most.map_or(most, |inner| inner.min(most));
         Ok(Policy {
-            share: self.share,
             most: Some(most),
+            ..self
         })
     }
 
     // The ranks that it chooses, rising.
-    pub fn choose(self, heap: Global, front: &Front) -> Result<Vec<usize>, Stop> {
+    pub fn choose(self, heap: Global, front: &Front) -> Result<Vec<usize>, AllocError> {
         let mut ranks = match self.share {
             Some(share) => hull_ranks(heap, front, share)?,
-            None => every_rank(heap, front)?,
+            None => front.firsts.iter().map(|ticket| ticket.rank).collect(heap)?,
         };
         if let Some(most) = self.most {
             ranks.truncate(usize::from(most));

@@ -1,13 +1,13 @@
 // Replaying a record, item by item.
+use super::frame::Frame;
 use super::going::Going;
-use super::lines::{Line, Said, may_be_said};
+use super::lines::{Answer, Table};
 use super::policies::Policy;
-use super::still::{Still, begin};
-use super::stop::Stop;
-use std::alloc::Global;
+use super::still::Still;
+use super::stop::{Cause, RefusedAt, Stop};
 
 // What an item tells.
-#[derive(Clone, Copy)]
+#[derive(Clone, Copy, PartialEq, Eq)]
 enum Kind {
     Begin,
     Reading,
@@ -17,192 +17,157 @@ enum Kind {
     Hull,
 }
 
+// An item with its numbers.
+#[derive(Clone, Copy)]
+enum Item {
+    Begin(Frame),
+    Answer(Answer),
+    Cap(u8),
+    Every,
+    Hull(u16),
+}
+
 // What has to come next, with what was told before.
 #[derive(Drop)]
 enum Due {
     Start,
-    Middle(u8, u8),
+    Middle(Frame),
     Rest(Still),
     Capped(Still, u8),
     Point(Going, usize),
 }
 
-// The search that a record tells, or the number and the place of its refusal.
-#[derive(Clone, Copy)]
-pub enum Told {
-    Run(Still),
-    Refused(u8, usize),
-}
+impl TryFrom<[u8; 2]> for Kind {
+    type Error = Cause;
 
-// The kind of a mark of two bytes.
-fn kind_of(mark: &[u8]) -> Option<Kind> {
-    match mark {
-        b"BG" => Some(Kind::Begin),
-        b"VL" => Some(Kind::Reading),
-        b"NF" => Some(Kind::NotFeasible),
-        b"CP" => Some(Kind::Cap),
-        b"RE" => Some(Kind::Every),
-        b"RH" => Some(Kind::Hull),
-        _ => None,
-    }
-}
-
-// How many bytes follow the mark.
-fn body_length(kind: Kind) -> usize {
-    match kind {
-        Kind::Begin | Kind::Hull => 2,
-        Kind::Reading => 4,
-        Kind::Cap => 1,
-        Kind::NotFeasible | Kind::Every => 0,
-    }
-}
-
-// Whether an item may come.
-fn may_come(due: &Due, kind: Kind) -> bool {
-    match due {
-        Due::Start => matches!(kind, Kind::Begin),
-        Due::Middle(_, _) | Due::Point(_, _) => {
-            matches!(kind, Kind::Reading | Kind::NotFeasible)
+    fn try_from(mark: [u8; 2]) -> Result<Kind, Cause> {
+        match &mark {
+            b"BG" => Ok(Kind::Begin),
+            b"VL" => Ok(Kind::Reading),
+            b"NF" => Ok(Kind::NotFeasible),
+            b"CP" => Ok(Kind::Cap),
+            b"RE" => Ok(Kind::Every),
+            b"RH" => Ok(Kind::Hull),
+            _ => Err(Cause::UnknownMark),
         }
-        Due::Rest(_) => matches!(kind, Kind::Cap | Kind::Every | Kind::Hull),
-        Due::Capped(_, _) => matches!(kind, Kind::Every | Kind::Hull),
     }
 }
 
-// The kind of the item at a place and the place after it, or the number of a refusal.
-fn item(bytes: &[u8], place: usize, due: &Due) -> Result<(Kind, usize), u8> {
-    let body = place.saturating_add(2);
-    let Some(mark) = bytes.get(place..body) else {
-        return Err(17);
-    };
-    let Some(kind) = kind_of(mark) else {
-        return Err(16);
-    };
-    if !may_come(due, kind) {
-        return Err(18);
-    }
-    let after = body.saturating_add(body_length(kind));
-    if after > bytes.len() {
-        return Err(17);
-    }
-    Ok((kind, after))
-}
-
-// A byte of a record.
-fn byte(bytes: &[u8], place: usize) -> u8 {
-    bytes.get(place).copied().unwrap_or(0)
-}
-
-// The reading of four bytes, the highest first.
-fn reading(bytes: &[u8], place: usize) -> i32 {
-    i32::from_be_bytes([
-        byte(bytes, place),
-        byte(bytes, place.saturating_add(1)),
-        byte(bytes, place.saturating_add(2)),
-        byte(bytes, place.saturating_add(3)),
-    ])
-}
-
-// The share of two bytes, the higher first.
-fn share(bytes: &[u8], place: usize) -> u16 {
-    let high = u16::from(byte(bytes, place));
-    let low = u16::from(byte(bytes, place.saturating_add(1)));
-    high.wrapping_mul(256).wrapping_add(low)
-}
-
-// An answer to what is due.
-fn answer(heap: Global, due: Due, said: Said, table: &mut [Line]) -> Result<Due, Stop> {
-    if !may_be_said(said) {
-        return Err(Stop::Refused(4));
-    }
-    match due {
-        Due::Middle(n, finest) => Ok(Due::Rest(begin(n, finest, table, said)?)),
-        Due::Point(going, point) => {
-            going.note(point, said, table);
-            let next = point.saturating_add(1);
-            if next >= going.points {
-                return Ok(Due::Rest(going.close(heap, table)?));
+impl Kind {
+    // The item whose numbers the bytes begin with, and the bytes after it; none where they end too soon.
+    fn item(self, bytes: &[u8]) -> Option<(Item, &[u8])> {
+        match (self, bytes) {
+            (Kind::Begin, [n, finest, rest @ ..]) => {
+                let (n, finest) = (*n, *finest);
+                Some((Item::Begin(Frame { n, finest }), rest))
             }
-            Ok(Due::Point(going, next))
+            (Kind::Reading, [a, b, c, d, rest @ ..]) => {
+                let reading = i32::from_be_bytes([*a, *b, *c, *d]);
+                Some((Item::Answer(Answer::Reading(reading)), rest))
+            }
+            (Kind::NotFeasible, rest) => Some((Item::Answer(Answer::NotFeasible), rest)),
+            (Kind::Cap, [most, rest @ ..]) => Some((Item::Cap(*most), rest)),
+            (Kind::Every, rest) => Some((Item::Every, rest)),
+            (Kind::Hull, [high, low, rest @ ..]) => {
+                Some((Item::Hull(u16::from_be_bytes([*high, *low])), rest))
+            }
+            _ => None,
         }
-        _ => Err(Stop::Refused(18)),
     }
 }
 
-// A round by a policy, under the cap that is due.
-fn open(heap: Global, due: Due, policy: Policy, table: &mut [Line]) -> Result<Due, Stop> {
-    match due {
-        Due::Rest(still) => Ok(Due::Point(still.open(heap, policy, table)?, 0)),
-        Due::Capped(still, most) => {
-            let policy = policy.capped(most)?;
-            Ok(Due::Point(still.open(heap, policy, table)?, 0))
+impl Due {
+    // Whether an item may come.
+    fn takes(&self, kind: Kind) -> bool {
+        match self {
+            Due::Start => kind == Kind::Begin,
+            Due::Middle(_) | Due::Point(_, _) => {
+                matches!(kind, Kind::Reading | Kind::NotFeasible)
+            }
+            Due::Rest(_) => matches!(kind, Kind::Cap | Kind::Every | Kind::Hull),
+            Due::Capped(_, _) => matches!(kind, Kind::Every | Kind::Hull),
         }
-        _ => Err(Stop::Refused(18)),
     }
-}
 
-// A cap, at rest.
-fn cap(due: Due, most: u8) -> Result<Due, Stop> {
-    let _ = Policy::every().capped(most)?;
-    match due {
-        Due::Rest(still) => Ok(Due::Capped(still, most)),
-        _ => Err(Stop::Refused(18)),
-    }
-}
-
-// What is due after an item whose body stands at a place.
-fn step(
-    heap: Global,
-    due: Due,
-    kind: Kind,
-    bytes: &[u8],
-    body: usize,
-    table: &mut [Line],
-) -> Result<Due, Stop> {
-    match kind {
-        Kind::Begin => {
-            let finest = byte(bytes, body.saturating_add(1));
-            Ok(Due::Middle(byte(bytes, body), finest))
+    // The item that the bytes begin with, and the bytes after it.
+    fn read<'a>(&self, bytes: &'a [u8]) -> Result<(Item, &'a [u8]), Cause> {
+        let (mark, body) = bytes.split_first_chunk::<2>().ok_or(Cause::CutShort)?;
+        let kind = Kind::try_from(*mark)?;
+        if !self.takes(kind) {
+            return Err(Cause::OutOfTurn);
         }
-        Kind::Reading => answer(heap, due, Some(reading(bytes, body)), table),
-        Kind::NotFeasible => answer(heap, due, None, table),
-        Kind::Cap => cap(due, byte(bytes, body)),
-        Kind::Every => open(heap, due, Policy::every(), table),
-        Kind::Hull => open(heap, due, Policy::hull(share(bytes, body))?, table),
+        kind.item(body).ok_or(Cause::CutShort)
     }
-}
 
-// The refusal of an item at a place: what is wrong with a beginning names the beginning.
-fn refused(number: u8, place: usize) -> Told {
-    if number <= 3 {
-        Told::Refused(number, 0)
-    } else {
-        Told::Refused(number, place)
+    // An answer to what is due.
+    fn answer(self, answer: Answer, table: &mut Table<'_>) -> Result<Due, Stop> {
+        let answer = answer.allowed()?;
+        match self {
+            Due::Middle(frame) => Ok(Due::Rest(Still::begin(frame, answer, table)?)),
+            Due::Point(going, point) => {
+                going.note(point, answer, table);
+                let next = point.saturating_add(1);
+                if next >= going.points {
+                    return Ok(Due::Rest(going.close(table)?));
+                }
+                Ok(Due::Point(going, next))
+            }
+            _ => Err(Stop::Refused(Cause::OutOfTurn)),
+        }
+    }
+
+    // A round by a policy, under the cap that is due.
+    fn open(self, policy: Policy, table: &mut Table<'_>) -> Result<Due, Stop> {
+        match self {
+            Due::Rest(still) => Ok(Due::Point(still.open(policy, table)?, 0)),
+            Due::Capped(still, most) => {
+                let policy = policy.capped(most)?;
+                Ok(Due::Point(still.open(policy, table)?, 0))
+            }
+            _ => Err(Stop::Refused(Cause::OutOfTurn)),
+        }
+    }
+
+    // A cap, at rest.
+    fn cap(self, most: u8) -> Result<Due, Cause> {
+        let _ = Policy::every().capped(most)?;
+        match self {
+            Due::Rest(still) => Ok(Due::Capped(still, most)),
+            _ => Err(Cause::OutOfTurn),
+        }
+    }
+
+    // What is due after an item.
+    fn step(self, item: Item, table: &mut Table<'_>) -> Result<Due, Stop> {
+        match item {
+            Item::Begin(frame) => Ok(Due::Middle(frame)),
+            Item::Answer(answer) => self.answer(answer, table),
+            Item::Cap(most) => Ok(self.cap(most)?),
+            Item::Every => self.open(Policy::every(), table),
+            Item::Hull(share) => self.open(Policy::hull(share)?, table),
+        }
     }
 }
 
 // Replays a record on a table.
-pub fn replay(heap: Global, bytes: &[u8], table: &mut [Line]) -> Result<Told, Stop> {
+pub fn replay(bytes: &[u8], table: &mut Table<'_>) -> Result<Still, Stop<RefusedAt>> {
     let mut due = Due::Start;
-    let mut place = 0;
-    for _ in 0..bytes.len() {
-        if place >= bytes.len() {
+    let mut rest = bytes;
+    // at most as often as there are bytes; that a `while` ends would need a contract of `read`
+    for _ in bytes {
+        if rest.is_empty() {
             break;
         }
-        let (kind, after) = match item(bytes, place, &due) {
-            Ok(found) => found,
-            Err(number) => return Ok(Told::Refused(number, place)),
-        };
-        let body = place.saturating_add(2);
-        due = match step(heap, due, kind, bytes, body, table) {
-            Ok(next) => next,
-            Err(Stop::Refused(number)) => return Ok(refused(number, place)),
-            Err(Stop::Memory) => return Err(Stop::Memory),
-        };
-        place = after;
+        let place = bytes.len().saturating_sub(rest.len());
+        let (item, after) = due.read(rest).map_err(|cause| cause.at(place))?;
+        due = due.step(item, table).map_err(|stop| stop.at(place))?;
+        rest = after;
     }
     match due {
-        Due::Rest(still) => Ok(Told::Run(still)),
-        _ => Ok(Told::Refused(17, bytes.len())),
+        Due::Rest(still) => Ok(still),
+        _ => Err(Stop::Refused(RefusedAt {
+            cause: Cause::CutShort,
+            place: bytes.len(),
+        })),
     }
 }

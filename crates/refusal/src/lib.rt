@@ -1,19 +1,15 @@
 // Why a call refuses, and the number by which each refusal is reported.
 #![tactic(auto)]
 
-ghost use Rattle.std.specs.Prelude.{◌≡◌, ℕ, Some, Decides, nat_eq};
+ghost use Rattle.std.specs.Prelude.{◌≡◌, Some};
 ghost use Rattle.refusal.specs.Numbers.{number_of};
 ghost use Rattle.refusal.specs.Words.{words_of};
 ghost use Rattle.refusal.specs.declared.Refusal.{Refusal as Cause};
-ghost use Rattle.std.specs.Cmp.Rules.{comparing};
-ghost use Rattle.std.proofs.Common.{rules};
-ghost use Rattle.std.specs.Cmp.{partial_equiv_from_equiv};
-ghost use Rattle.std.specs.Ordering.{on};
 
 use std::fmt;
 
 // One case for each cause. The numbers 14 and 15 are not in use.
-#[derive(Clone, Copy, Debug)]
+#[derive(Clone, Copy, PartialEq, Eq, Debug)]
 pub enum Refusal {
     // begin: the directions are not 1 to 6
     Directions,
@@ -52,7 +48,7 @@ pub enum Refusal {
 }
 
 impl Refusal {
-    // The number of the cause, which no other cause has.
+    // The number of the cause, which no other cause has. It is no discriminant, since a case may come to carry a value.
     pub fn number(self) -> u8
         ensures value { result ≡ number_of self }
         ensures own { (other : Cause) → number_of other ≡ result → other ≡ self }
@@ -104,22 +100,13 @@ impl Refusal {
     }
 }
 
-// Two causes are the same exactly when their numbers are.
-impl PartialEq for Refusal {
-    ghost eq = { on number_of nat_eq };
+// A call that hands something back beside its refusal, where only the cause goes on.
+impl<S: Drop> From<(Refusal, S)> for Refusal {
+    ghost from_gives = { λ refused why. why ≡ refused.0 };
 
-    ghost laws = { partial_equiv_from_equiv (Prim.search (comparing, rules)) };
-
-    fn eq(&self, other: &Refusal) -> bool
-        ensures value { result ≡ on number_of nat_eq self.now other.now }
-        ensures same { Decides result (self.now ≡ other.now) }
-    {
-        self.number() == other.number()
+    fn from(refused: (Refusal, S)) -> Refusal {
+        refused.0
     }
-}
-
-impl Eq for Refusal {
-    ghost laws = { Prim.search (comparing, rules) };
 }
 
 impl fmt::Display for Refusal {

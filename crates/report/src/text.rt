@@ -7,7 +7,6 @@ ghost use Rattle.report.specs.Text.{best_text, box_text, boxes_text, head_text, 
 ghost use Rattle.report.specs.Outcome.{Adds, Written};
 ghost use Rattle.report.specs.declared.text.NoText.TheVariants.{Memory, Refused};
 
-use grid::interval::Interval;
 use refusal::Refusal;
 use search::states::Rest;
 use std::alloc::{AllocError, Global};
@@ -38,15 +37,6 @@ impl From<AllocError> for NoText {
     }
 }
 
-// What is written to a `String` fails for want of memory alone.
-impl From<fmt::Error> for NoText {
-    ghost from_gives = { λ _ r. r ≡ Memory };
-
-    fn from(_error: fmt::Error) -> NoText {
-        NoText::Memory
-    }
-}
-
 // The sides of a box in its first n directions, by rising direction.
 #[derive(Clone, Copy)]
 struct Sides {
@@ -56,25 +46,16 @@ struct Sides {
     ghost intervals: { (d : ℕ) → d < n → IsInterval (first_of row d) (level_of row d) },
 }
 
-// The side of a row in direction d.
-fn side_of(row: &Row, d: usize) -> Interval
-    requires { (d < 6) × (IsInterval (first_of row.now d) (level_of row.now d)) }
-    ensures { (result.first ≡ first_of row.now d) × (result.level ≡ level_of row.now d) }
-{
-    match Interval::new(row.firsts[d], row.levels[d]) {
-        Some(side) => side,
-        None => unreachable(),
-    }
-}
-
 // Each side with a space before it.
 impl fmt::Display for Sides {
     ghost output = { λ x. Some (sides_text x.row x.n) };
 
     fn fmt<W: fmt::Write>(&self, f: &mut fmt::Formatter<W>) -> fmt::Result {
-        for d in 0..self.n {
-            let side = side_of(&self.row, d);
-            write!(f, " {side}")?;
+        for span in &self.row.spans[..self.n] {
+            match span.interval() {
+                Some(side) => write!(f, " {side}")?,
+                None => unreachable(),
+            }
         }
         Ok(())
     }
@@ -113,8 +94,8 @@ fn push_boxes(out: &mut String, shape: Shape, table: &[Row], boxes: usize) -> Re
     requires { Own shape.n shape.finest boxes table.now }
     ensures { Adds out.old result (boxes_text shape.n table.now boxes) out.new }
 {
-    for j in 0..boxes {
-        push_box(out, shape, j, &table[j])?;
+    for (j, row) in table[..boxes].iter().enumerate() {
+        push_box(out, shape, j, row)?;
     }
     Ok(())
 }

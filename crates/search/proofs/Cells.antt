@@ -1,5 +1,6 @@
 -- Every point of an accepted open has a cell that locate gives.
 use Rattle.std.proofs.Common.{◌≡◌, ℕ, zero, suc, ◌+◌, ◌-◌, ◌<◌, ◌≢◌, List, [], ◌∷◌, length, get_or, Ok, Err, Result, refl, ap, inl, inr, arith}
+use Rattle.std.proofs.lemmas.Bool.{cases_eq}
 use Rattle.grid.specs.Grid.{middle_of}
 use Rattle.grid.proofs.Lengths.{cells_at_third}
 use Rattle.policy.specs.declared.front.Front.{Front}
@@ -7,7 +8,6 @@ use Rattle.ranks.specs.Ranks.{Ranks}
 use Rattle.refusal.specs.declared.Refusal.{Refusal}
 use Rattle.table.specs.Rows.{first_of, level_of, row_at}
 use Rattle.table.specs.declared.rows.Row.{Row}
-use Rattle.table.proofs.Sums.{same}
 use Rattle.search.specs.Calls.{Opens, OwnRound}
 use Rattle.search.specs.Points.{CellOf, Located, Moved, Side, high, low, third_at}
 use Rattle.search.specs.Runs.{CellsOf, LawfulAt, LocatedCells}
@@ -42,7 +42,7 @@ cell_of : (n : ℕ) (row : Row) (d : ℕ) (s : Side) → d < n → level_of row 
 cell_of n row d s l h =
     let at = moved s (first_of row d) (level_of row d) h in
     let f = list_of 0 n (λ e x. (e ≡ d → Moved s (first_of row d) (level_of row d) x) × (e ≢ d → x ≡ middle_of (first_of row e) (level_of row e)))
-    (λ e k. elim (same e d) [
+    (λ e k. elim (cases_eq e d) [
       | inl y ↦ (at.0, (λ _. at.1, λ ne. absurd (ne y)))
       | inr y ↦ (middle_of (first_of row e) (level_of row e), (λ e. absurd (y e), λ _. refl))
     ]) in

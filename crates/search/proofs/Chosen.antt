@@ -1,13 +1,13 @@
 -- The points of the chosen ranks, and the boxes that they are of.
 use Rattle.std.proofs.Common.{◌≡◌, ℕ, ◌-◌, ◌*◌, ◌%◌, ◌<◌, ◌≤◌, Bool, true, cond, ◌≢◌, List, sym, ap, ◌∙◌, inl, inr, mod-lt, arith}
-use Rattle.std.proofs.lemmas.Bool.{true≢false}
+use Rattle.std.proofs.lemmas.Bool.{true≢false, cases_lt}
 use Rattle.policy.specs.Filled.{filled_end}
 use Rattle.policy.specs.Levels.{filled}
 use Rattle.policy.specs.Rules.{OnlyFilled, ReachesLargest}
 use Rattle.policy.specs.declared.front.Front.{Front}
 use Rattle.ranks.proofs.Lowest.{least_of}
 use Rattle.ranks.specs.Ranks.{Ranks}
-use Rattle.table.proofs.Sums.{less, no_is, sum_term, test, yes_is}
+use Rattle.table.proofs.Sums.{no_is, sum_term, test, yes_is}
 use Rattle.table.specs.Boxes.{OfRank, Own}
 use Rattle.table.specs.Fronts.{FrontOf}
 use Rattle.table.specs.declared.rows.Row.{Row}
@@ -22,7 +22,7 @@ term n top p c some l t =
 module _ (n finest boxes : ℕ) (table : List Row) (front : Front) (p : Ranks) (some : 1 ≤ n) (six : n ≤ 6) (fine : finest ≤ 19)
     (own : Own n finest boxes table) (of : FrontOf n finest boxes table front) (sound : OnlyFilled front p) where
   bounded : (r : ℕ) → filled front r ≡ true → r < 114
-  bounded r h = elim (less r 114) [ inl l ↦ l | inr g ↦ absurd (true≢false (sym h ∙ filled_end front r g)) ]
+  bounded r h = elim (cases_lt r 114) [ inl l ↦ l | inr g ↦ absurd (true≢false (sym h ∙ filled_end front r g)) ]
 
   -- where some box can be cut, there are points
   pub some_points : ReachesLargest front p → (r : ℕ) × (j : ℕ) × OfRank n finest boxes table r j → 2 ≤ points_of n p

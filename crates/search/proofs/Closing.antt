@@ -1,12 +1,13 @@
 -- What closing makes of the boxes: the parts of each box, which are boxes too, and their middles.
 use Rattle.std.proofs.Common.{◌≡◌, ℕ, ◌+◌, ◌-◌, ◌/◌, ◌<◌, ◌≤◌, false, T, List, length, sym, refl, ap, ◌∙◌, subst, inl, inr, arith}
+use Rattle.std.proofs.lemmas.Bool.{cases_lt}
 use Rattle.table.specs.Boxes.{Own}
 use Rattle.table.specs.Entries.{waiting}
 use Rattle.table.specs.Rows.{IsMiddle, LiesIn, rank, row_at}
 use Rattle.table.specs.declared.rows.Row.{Row}
 use Rattle.table.proofs.Chains.{Strict}
 use Rattle.table.proofs.Orders.{by_answer}
-use Rattle.table.proofs.Sums.{less, no_is}
+use Rattle.table.proofs.Sums.{no_is}
 use Rattle.search.specs.Calls.{CutAll, NoneWaits, OwnRound}
 use Rattle.search.specs.Points.{IsPoint, Located, Side, Taken, cut_before, point_at, w_of}
 use Rattle.search.specs.declared.states.Round.{Round}
@@ -39,7 +40,7 @@ module _ (round : Round) (table after : List Row) (own : OwnRound round table) (
 
   pub part_of : (i : ℕ) → i < round.boxes + round.points → (j : ℕ) × Part i j
   part_of i l =
-      elim (less i round.boxes) [
+      elim (cases_lt i round.boxes) [
         | inl a ↦ elim (taken? round table own i) [ inl t ↦ (i, kept refl t.0 t.1) | inr t ↦ (i, whole refl a t) ]
         | inr a ↦ let f = point_of round table own (i - round.boxes) (omega arith) in
             (f.1, given (i - round.boxes) f.0 f.2 f.3 (omega arith) f.4)
@@ -122,7 +123,7 @@ module _ (round : Round) (table after : List Row) (own : OwnRound round table) (
 
   answered_before : NoneWaits round table → (i : ℕ) → i < round.boxes + round.points → waiting (row_at table i).entry ≡ false
   answered_before none i l =
-      elim (less i round.boxes) [
+      elim (cases_lt i round.boxes) [
         | inl a ↦ (own.own.each i a).answered
         | inr a ↦
             let e : round.boxes + (i - round.boxes) ≡ i = omega arith in

@@ -1,9 +1,9 @@
 -- Cutting along the long sides in the order of cutting gives what closing promises of a taken box.
 use Rattle.std.proofs.Common.{◌≡◌, ℕ, ◌+◌, ◌-◌, ◌*◌, ◌%◌, ◌<◌, ◌≤◌, false, T, ◌≢◌, ◌⊎◌, List, length, sym, ap, ◌∙◌, subst, inl, inr, arith}
+use Rattle.std.proofs.lemmas.Bool.{cases_eq, cases_lt}
 use Rattle.table.specs.declared.rows.Row.{Row}
 use Rattle.table.specs.Rows.{row_at}
 use Rattle.table.specs.Boxes.{Long}
-use Rattle.table.proofs.Sums.{same, less}
 use Rattle.table.proofs.Chains.{Strict}
 use Rattle.table.proofs.Orders.{by_answer}
 use Rattle.search.specs.declared.sides.LongSide.{LongSide}
@@ -25,7 +25,7 @@ module _ (n r : ℕ) (table : List Row) (j base : ℕ) (t : Taking n r table j b
   places i k p q ne =
       let d = o.each i p in let e = o.each k q in
       let apart : d.0 ≢ e.0 = λ x. o.distinct i k ne p q (direction_is i p ∙ x ∙ sym (direction_is k q)) in
-      elim (less d.0 e.0) [
+      elim (cases_lt d.0 e.0) [
         | inl h ↦ omega (arith, place_apart n (row_at table j) t.some d.0 e.0 d.1 e.1 h)
         | inr h ↦ omega (arith, place_apart n (row_at table j) t.some e.0 d.0 e.1 d.1 (omega (arith, apart)))
       ]
@@ -75,9 +75,9 @@ module _ (n r : ℕ) (table : List Row) (j base : ℕ) (t : Taking n r table j b
   before_ahead : (k d e : ℕ) → k < length xs → side_at xs k ≡ side_for n table j base d → Long n (row_at table j) e → T (side_before (side_for n table j base e) (side_for n table j base d)) → Ahead xs k e
   before_ahead k d e h is l b =
       let p = o.all e l in
-      elim (less p.0 k) [
+      elim (cases_lt p.0 k) [
         | inl q ↦ (p.0, q, ap (λ (s : LongSide). s.direction.number) p.2)
-        | inr q ↦ elim (same p.0 k) [
+        | inr q ↦ elim (cases_eq p.0 k) [
           | inl x ↦
               let y : e ≡ d = ap (λ (s : LongSide). s.direction.number) (sym p.2 ∙ ap (side_at xs) x ∙ is) in
               absurd (order.irrefl d (subst (λ z. T (side_before (side_for n table j base z) (side_for n table j base d))) y b))

@@ -1,5 +1,6 @@
 -- The taken boxes of the chosen ranks below r are cut, and the others are as they were.
 use Rattle.std.proofs.Common.{◌≡◌, ℕ, zero, suc, ◌+◌, ◌-◌, ◌*◌, ◌/◌, ◌%◌, ◌<◌, ◌≤◌, Bool, cond, T, ◌≢◌, List, length, sym, refl, ap, ◌∙◌, subst, ap₂, inl, inr, add-one, arith}
+use Rattle.std.proofs.lemmas.Bool.{cases_eq}
 use Rattle.grid.specs.Grid.{IsInterval}
 use Rattle.order.specs.declared.answer.Answer.{Answer}
 use Rattle.order.specs.Answers.{earlier_answer}
@@ -8,7 +9,7 @@ use Rattle.table.specs.declared.rows.Row.{Row}
 use Rattle.table.specs.Rows.{rank, row_at, first_of, level_of}
 use Rattle.table.specs.Entries.{before, answer_of}
 use Rattle.table.specs.Boxes.{Long, First}
-use Rattle.table.proofs.Sums.{same, yes_is, no_is, sum_fits}
+use Rattle.table.proofs.Sums.{yes_is, no_is, sum_fits}
 use Rattle.search.specs.declared.states.Round.{Round}
 use Rattle.search.specs.Points.{Side, low, high, point_at, Taken, IsPoint, w_of, cut_before, Kept, Given, longs_below}
 use Rattle.search.specs.Counts.{points_below, points_of}
@@ -73,7 +74,7 @@ module _ (round : Round) (table : List Row) (own : OwnRound round table) where
   }
     where
       lower : (q : ℕ) → q < r + 1 → T (ranks round.chosen q) → q < r
-      lower q h t = elim (same q r) [ inl e ↦ absurd (out (subst (λ x. T (ranks round.chosen x)) e t)) | inr ne ↦ omega arith ]
+      lower q h t = elim (cases_eq q r) [ inl e ↦ absurd (out (subst (λ x. T (ranks round.chosen x)) e t)) | inr ne ↦ omega arith ]
 
   -- no rank from r on and below r + k is chosen, as between two ranks that are taken out of the set in turn
   pub cut_skips : (k r : ℕ) (mid : List Row) → ((q : ℕ) → r ≤ q → q < r + k → T (ranks round.chosen q) → ⊥)
@@ -185,7 +186,7 @@ module _ (round : Round) (table : List Row) (own : OwnRound round table) where
           record {
             same_length = b.same_length ∙ c.same_length;
             entries = λ m. b.entries m ∙ c.entries m;
-            taken = λ q i h t. elim (same q r) [
+            taken = λ q i h t. elim (cases_eq q r) [
               | inl e ↦
                   let u : Taken round table r i = subst (λ (k : ℕ). Taken round table k i) e t in
                   let v : j ≡ i = first_unique round.shape.n round.shape.finest round.boxes table r j i f u.first in
@@ -195,7 +196,7 @@ module _ (round : Round) (table : List Row) (own : OwnRound round table) where
                   let z = t.first.1.0.box.within in
                   subst (λ (row : Row). Kept round.shape.n (row_at table i) row) (sym (old_row i (other_taken q i l t) (omega (arith, is)))) (c.taken q i l t)
             ];
-            given = λ p q i d s h x. elim (same q r) [
+            given = λ p q i d s h x. elim (cases_eq q r) [
               | inl e ↦
                   subst (λ (k : ℕ). Given round.shape.n (row_at table i) (row_at after (round.boxes + p)) d s (λ z. cut_before round table k i z d)) (sym e)
                   (given_now p i d s (subst (λ (k : ℕ). IsPoint round table p k i d s) e x))

@@ -1,11 +1,12 @@
 -- The cells of a box, and of the rows that closing makes of it.
 use Rattle.std.proofs.Common.{◌≡◌, ℕ, ◌+◌, ◌/◌, ◌<◌, ◌≤◌, Bool, ◌&&◌, T, ◌≢◌, ◌⊎◌, List, length, get_or, sym, ◌∙◌, subst, subst₂, inl, inr, arith}
+use Rattle.std.proofs.lemmas.Bool.{cases_eq}
 use Rattle.grid.specs.Grid.{middle_of}
 use Rattle.table.specs.Boxes.{Long}
 use Rattle.table.specs.Rows.{IsMiddle, LiesIn, first_of, level_of, rank}
 use Rattle.table.specs.declared.rows.Row.{Row}
 use Rattle.table.proofs.Chains.{Strict, leader}
-use Rattle.table.proofs.Sums.{both, both_left, both_right, same, test}
+use Rattle.table.proofs.Sums.{both, both_left, both_right, test}
 use Rattle.search.specs.Points.{CellOf, Given, IsThird, Kept, Moved, Same, Side, Third, is_long, middle, outer, start_of}
 use Rattle.search.proofs.Levels.{long_is, long_yes, long?}
 use Rattle.search.proofs.Thirds.{In, middle_in, middle_moved, middle_same, moved_in, moved_off, moved_side, not_both, off, off_middle, off_outer, one_side}
@@ -60,7 +61,7 @@ module _ (n : ℕ) (old : Row) (some : 1 ≤ n) (six : n ≤ 6) (cut : rank n ol
     pub given_given : (one two : Row) (d e : ℕ) (s z : Side) → Long n old d → Long n old e
         → Given n old one d s (λ x. b x d) → Given n old two e z (λ x. b x e) → (c : List ℕ) → LiesIn n c one → LiesIn n c two → (d ≡ e) × (s ≡ z)
     given_given one two d e s z l m g h c i j =
-        elim (same d e) [
+        elim (cases_eq d e) [
           | inl x ↦ (
             x,
             one_side s z (first_of old d) (level_of old d) (get_or c d 0) (long_cut d l) (given_own one d s (λ x. b x d) l g c i)
@@ -91,7 +92,7 @@ module _ (n : ℕ) (old : Row) (some : 1 ≤ n) (six : n ≤ 6) (cut : rank n ol
                 d,
                 side.0,
                 x,
-                λ new g. lies n c new (λ e l. elim (same e d) [
+                λ new g. lies n c new (λ e l. elim (cases_eq e d) [
                   | inl y ↦ subst (λ z. In (first_of new z) (level_of new z) (get_or c z 0)) (sym y) (to_third old new d (get_or c d 0) (outer side.0) g.own side.1)
                   | inr y ↦ elim (test (is_long n old e && b e d)) [
                     | inl t ↦ let z = long_is n old some e l (both_left (is_long n old e) (b e d) t) in
@@ -119,7 +120,7 @@ module _ (n : ℕ) (old : Row) (some : 1 ≤ n) (six : n ≤ 6) (cut : rank n ol
   pub given_middle : (new : Row) (d : ℕ) (s : Side) (first : ℕ → Bool) → Long n old d → Given n old new d s first → (c : List ℕ) → length c ≡ n → CellOf n old d s c → IsMiddle n new c
   given_middle new d s first l g c len m = record {
     directions = len;
-    middle = λ e k. elim (same e d) [
+    middle = λ e k. elim (cases_eq e d) [
       | inl x ↦ subst (λ y. get_or c y 0 ≡ middle_of (first_of new y) (level_of new y)) (sym x)
           (middle_moved s (first_of old d) (level_of old d) (get_or c d 0) (long_cut d l) m.moved ∙ sym (cc (g.own.first, g.own.level)))
       | inr x ↦ elim (test (is_long n old e && first e)) [
@@ -134,7 +135,7 @@ module _ (n : ℕ) (old : Row) (some : 1 ≤ n) (six : n ≤ 6) (cut : rank n ol
 
   pub cell_in : (d : ℕ) (s : Side) → Long n old d → (c : List ℕ) → CellOf n old d s c → LiesIn n c old
   cell_in d s l c m =
-      lies n c old (λ e k. elim (same e d) [
+      lies n c old (λ e k. elim (cases_eq e d) [
         | inl x ↦ subst (λ y. In (first_of old y) (level_of old y) (get_or c y 0)) (sym x) (moved_in s (first_of old d) (level_of old d) (get_or c d 0) (long_cut d l) m.moved)
         | inr x ↦ subst (In (first_of old e) (level_of old e)) (sym (m.others e k x)) (middle_in (first_of old e) (level_of old e))
       ])
@@ -149,7 +150,7 @@ cell_off n old d s c l m i = moved_off s (first_of old d) (level_of old d) (get_
 
 pub cell_same : (n : ℕ) (old : Row) (d e : ℕ) (s z : Side) (c : List ℕ) → d < n → e < n → CellOf n old d s c → CellOf n old e z c → (d ≡ e) × (s ≡ z)
 cell_same n old d e s z c l m i j =
-    elim (same d e) [
+    elim (cases_eq d e) [
       | inl x ↦ (
         x,
         moved_side s z (first_of old d) (level_of old d) (get_or c d 0) i.moved

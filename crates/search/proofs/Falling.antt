@@ -1,12 +1,13 @@
 -- Closing a round lowers the sum of the rounds that the boxes can still take.
 use Rattle.std.proofs.Common.{◌≡◌, ℕ, zero, suc, ◌+◌, ◌-◌, ◌*◌, ◌/◌, ◌%◌, ◌<◌, ◌≤◌, Bool, true, false, cond, ◌&&◌, T, ltb, ◌≢◌, List, sym, refl, ap, ◌∙◌, subst, inl, inr, add-zero, add_assoc, mod-lt, add-mul, one-mul, div-add-mod', arith, ltb→lt, lt→ltb}
+use Rattle.std.proofs.lemmas.Bool.{cases_eq, cases_lt}
 use Rattle.ranks.specs.Ranks.{ranks}
 use Rattle.table.specs.Rows.{rank, row_at}
 use Rattle.table.specs.Sums.{bit, sum}
 use Rattle.table.specs.declared.rows.Row.{Row}
 use Rattle.table.proofs.Chains.{Strict, place, places, size}
 use Rattle.table.proofs.Orders.{by_answer}
-use Rattle.table.proofs.Sums.{bit_no, bit_yes, both, both_left, less, no_is, same, sum_add, sum_at, sum_cong, sum_split, sum_term, sum_zero, test, yes_is}
+use Rattle.table.proofs.Sums.{bit_no, bit_yes, both, both_left, no_is, sum_add, sum_at, sum_cong, sum_split, sum_term, sum_zero, test, yes_is}
 use Rattle.search.specs.Calls.{CutAll, OwnRound}
 use Rattle.search.specs.Counts.{points_below, points_of}
 use Rattle.search.specs.Points.{IsPoint, Side, Taken, cut_before, high, is_long, low, w_of}
@@ -123,7 +124,7 @@ module _ (round : Round) (table after : List Row) (own : OwnRound round table) (
         ≡ bit (ltb r (K * n)) + weight n K after j + 2 * sum (n - r % n) (λ i. v n (K * n - (r + 1 + i)))
     split =
         let here : weight n K table j ≡ v n (K * n - r) = ap (λ x. v n (K * n - x)) t.first.1.0.box.ranked in
-        elim (less r (K * n)) [
+        elim (cases_lt r (K * n)) [
           | inl l ↦ omega (arith, here, spread n K r some l, kept_weight, ap bit (lt_yes r (K * n) l))
           | inr l ↦
               let more : K * n ≤ (r / n + 1) * n = omega (arith, div-add-mod' r n, mod-lt r some, add-mul (r / n) 1 n, one-mul n) in
@@ -149,7 +150,7 @@ module _ (round : Round) (table after : List Row) (own : OwnRound round table) (
   unfolding mixed
   mixed_other r i x =
       let q : ℕ = rank n (row_at table i) in
-      elim (less q r) [
+      elim (cases_lt q r) [
         | inl l ↦ ap (λ y. cond y (weight n K after i) (weight n K table i)) (lt_yes q (suc r) (omega arith) ∙ sym (lt_yes q r l))
         | inr l ↦ ap (λ y. cond y (weight n K after i) (weight n K table i)) (lt_no q (suc r) (omega arith) ∙ sym (lt_no q r l))
       ]
@@ -173,7 +174,7 @@ module _ (round : Round) (table after : List Row) (own : OwnRound round table) (
   -- a row of rank r that is not taken counts the same
   mixed_same : (r i : ℕ) → i < round.boxes → (Taken round table r i → ⊥) → mixed (suc r) i ≡ mixed r i
   mixed_same r i l x =
-      elim (same (rank n (row_at table i)) r) [
+      elim (cases_eq (rank n (row_at table i)) r) [
         | inl e ↦ mixed_new (suc r) i (omega arith) ∙ same_weight i l (not_taken r i e x) ∙ sym (mixed_old r i (omega arith))
         | inr y ↦ mixed_other r i y
       ]
@@ -230,7 +231,7 @@ module _ (round : Round) (table after : List Row) (own : OwnRound round table) (
         sum_split round.boxes round.points (weight n K after),
         ap (λ x. sum x (λ p. weight n K after (round.boxes + p))) e,
         sum_cong round.boxes (mixed top) (weight n K after)
-            (λ i l. elim (less (rank n (row_at table i)) top) [
+            (λ i l. elim (cases_lt (rank n (row_at table i)) top) [
               | inl a ↦ mixed_new top i a
               | inr a ↦ mixed_old top i a ∙ sym (same_weight i l (λ q t. absurd (omega (arith, chosen_bound round q t.in_set, t.first.1.0.box.ranked))))
             ]),

@@ -1,7 +1,7 @@
 -- The boxes of a table: the first of a rank, and tables that have the same boxes.
 use Rattle.std.proofs.Common.{◌≡◌, ℕ, ◌/◌, ◌<◌, ◌≤◌, Bool, false, T, eqb, List, length, Some, None, Option, sym, refl, ap, ◌∙◌, subst, inl, inr, mul_comm, div-lt_iff_lt-mul, arith, eqb→eq}
 use lib.Dec.{eqb_refl}
-use Rattle.std.proofs.lemmas.Bool.{true≢false}
+use Rattle.std.proofs.lemmas.Bool.{true≢false, cases_eq}
 use Rattle.order.specs.Records.{candidate_before}
 use Rattle.order.specs.declared.answer.Answer.{Answer}
 use Rattle.order.specs.declared.records.Candidate.{Candidate}
@@ -13,7 +13,7 @@ use Rattle.table.specs.declared.rows.Row.{Row}
 use Rattle.table.proofs.Chains.{Leader, Strict, leader}
 use Rattle.table.proofs.OneFront.{first_one}
 use Rattle.table.proofs.Orders.{by_answer}
-use Rattle.table.proofs.Sums.{no_is, same}
+use Rattle.table.proofs.Sums.{no_is}
 
 -- a box that can be cut has a level below the finest
 pub box_level : (n finest boxes : ℕ) (table : List Row) (r j : ℕ) → 1 ≤ n → OfRank n finest boxes table r j → rank n (row_at table j) / n < finest
@@ -60,7 +60,7 @@ module _ (n finest boxes : ℕ) (table : List Row) (r : ℕ) where
         let k : ℕ = x.row in
         no_is _ (λ t.
         let ahead : T (before (w k) k (w j) j) = subst (λ a. T (before a k (w j) j)) (one_answer _ _ _ h.answered (shows k h.box.within)) t in
-        elim (same k j) [
+        elim (cases_eq k j) [
           | inl e ↦ order.irrefl j (subst (λ y. T (before (w y) y (w j) j)) e ahead)
           | inr ne ↦ order.irrefl j (order.trans j k j (f.leads k h.box.within (ranked_is k h.box.ranked) ne) ahead)
         ])

@@ -1,5 +1,6 @@
 -- A check, a refusal, a value, a state: each is one. Begin, open, answer and best have one outcome.
 use Rattle.std.proofs.Common.{◌≡◌, ℕ, ◌+◌, ◌*◌, ◌<◌, ◌≤◌, List, ℤ, Some, None, Ok, Err, Option, Result, sym, refl, ap, ◌∙◌, subst, inl, inr}
+use Rattle.std.proofs.lemmas.Bool.{cases_lt}
 use mathlib.Core.HLevel.{is_prop→PathP, ×_prop, ×₃_prop}
 use native.Mathlib.Bridge.{le_prop}
 use native.Mathlib.Nat.{ℕ_set}
@@ -17,7 +18,6 @@ use Rattle.refusal.specs.Checks.{Check, Gives, Refused}
 use Rattle.refusal.specs.declared.Refusal.{Refusal}
 use Rattle.refusal.specs.declared.Refusal.TheVariants.{AlreadyAnswered, Directions, FinestLevel, NoRoom, NoRow, NoSuchPoint, NotOwnTable, NothingToCut, ReadingOutOfRange}
 use Rattle.table.proofs.OneFront.{candidate_total, front_one}
-use Rattle.table.proofs.Sums.{less}
 use Rattle.table.specs.Rows.{no_row}
 use Rattle.table.specs.declared.rows.Row.{Row}
 use Rattle.table.specs.declared.shape.Shape.{Shape}
@@ -90,9 +90,9 @@ begins_one n finest table a =
 -- Open
 
 cleared_one : (from to : ℕ) (table a b : List Row) → Cleared from to table a → Cleared from to table b → a ≡ b
-cleared_one from to table a b x y = ext_get_or no_row a b (x.same_length ∙ sym y.same_length) (λ j h. elim (less j from) [
+cleared_one from to table a b x y = ext_get_or no_row a b (x.same_length ∙ sym y.same_length) (λ j h. elim (cases_lt j from) [
   | inl l ↦ x.below j l ∙ sym (y.below j l)
-  | inr g ↦ elim (less j to) [ inl l ↦ x.waits j g l ∙ sym (y.waits j g l) | inr k ↦ x.above j k ∙ sym (y.above j k) ]
+  | inr g ↦ elim (cases_lt j to) [ inl l ↦ x.waits j g l ∙ sym (y.waits j g l) | inr k ↦ x.above j k ∙ sym (y.above j k) ]
 ])
 
 opened_one : (rest : Rest) (chosen : Ranks) (a b : Round) → Opened rest chosen a → Opened rest chosen b → a ≡ b

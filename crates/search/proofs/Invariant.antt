@@ -2,18 +2,20 @@
 use Rattle.std.proofs.Common.{◌≡◌, ℕ, ◌+◌, ◌-◌, ◌*◌, ◌^◌, ◌<◌, ◌≤◌, Bool, cond, T, ◌≢◌, ◌⊎◌, List, length, set, replicate, Some, None, sym, refl, ap, ◌∙◌, subst, ap₂, subst₂, inl, inr, mul_comm, arith, length-set, get_or-set_same}
 use native.Mathlib.Nat.{pow-le-pow_right, sub-zero}
 use lib.ListN.{get_or-replicate, length-replicate}
+use Rattle.std.proofs.lemmas.Bool.{cases_lt}
 use Rattle.grid.specs.Grid.{IsInterval, middle_of}
 use Rattle.order.specs.Answers.{allowed}
 use Rattle.order.specs.declared.answer.Answer.{Answer}
 use Rattle.ranks.specs.Ranks.{ranks}
 use Rattle.table.specs.Boxes.{IsBox, Own}
 use Rattle.table.specs.Entries.{answer_of, none_shown, shown_by}
-use Rattle.table.specs.Rows.{IsCell, IsMiddle, LiesIn, first_of, level_of, no_row, rank, row_at, whole_grid}
+use Rattle.table.specs.Rows.{all_cells, IsCell, IsMiddle, LiesIn, first_of, level_of, no_row, rank, row_at, whole_grid}
 use Rattle.table.specs.Sums.{sum}
 use Rattle.table.specs.declared.rows.Entry.TheVariants.{Answered}
 use Rattle.table.specs.declared.rows.Row.{Row}
+use Rattle.table.specs.declared.rows.Span.{Span}
 use Rattle.table.specs.declared.shape.Shape.{Shape}
-use Rattle.table.proofs.Sums.{less, sum_cong, sum_none, sum_short, sum_zero, yes_is}
+use Rattle.table.proofs.Sums.{sum_cong, sum_none, sum_short, sum_zero, yes_is}
 use Rattle.search.specs.Calls.{OwnRound}
 use Rattle.search.specs.Points.{Located}
 use Rattle.search.specs.Runs.{Book, Holds, OwnTable, State, boxes_of, first_book, noted, open_points, rounds_for, rounds_of}
@@ -65,9 +67,9 @@ holds shape state table book b own = record {
       let row : Row = row_at table j in
       let near = near_own n shape.finest row shape.few (b.own.each j l).directions in
       let none : sum (boxes_of state) (weight n k table) ≡ 0 = elim (b.weights k most) [ inl e ↦ e | inr e ↦ omega arith ] in
-      let past : k * n ≤ rank n row = elim (less (rank n row) (k * n))
+      let past : k * n ≤ rank n row = elim (cases_lt (rank n row) (k * n))
       [ inl x ↦ absurd (omega (arith, counts n (k * n - rank n row) (omega arith), sum_none (boxes_of state) (weight n k table) none j l)) | inr x ↦ x ] in
-      let deep : k ≤ level_of row d = elim (less (level_of row d) k)
+      let deep : k ≤ level_of row d = elim (cases_lt (level_of row d) k)
       [ inl x ↦ absurd (omega (arith, mul_comm n k, sum_short n k (level_of row) d m x (λ i y. omega (arith, near.near i d y m)))) | inr x ↦ x ] in
       pow-le-pow_right {n = 3} (omega arith) {i = 19 - level_of row d} {j = 19 - k} (omega arith);
   apart = b.apart;
@@ -120,10 +122,10 @@ module _ (begun : Rest) (table written : List Row) (a : Answer) (rows : 1 ≤ le
   row_is j l = let e : j ≡ 0 = omega arith in ap (row_at written) e ∙ row_zero
 
   level_zero : (d : ℕ) → d < 6 → level_of (whole_grid (Answered a)) d ≡ 0
-  level_zero d l = get_or-replicate 6 d 0 0 l
+  level_zero d l = ap (λ (s : Span). s.level) (get_or-replicate 6 d all_cells all_cells l)
 
   first_zero : (d : ℕ) → d < 6 → first_of (whole_grid (Answered a)) d ≡ 0
-  first_zero d l = get_or-replicate 6 d 0 0 l
+  first_zero d l = ap (λ (s : Span). s.first) (get_or-replicate 6 d all_cells all_cells l)
 
   used : (d : ℕ) → d < n → d < 6
   used d l = omega (arith, begun.shape.few)

@@ -1,11 +1,12 @@
 -- The levels of a box, its long sides, and the ranks of the rows that closing makes of it.
 use Rattle.std.proofs.Common.{◌≡◌, ℕ, ◌+◌, ◌-◌, ◌*◌, ◌/◌, ◌%◌, ◌<◌, ◌≤◌, Bool, ◌&&◌, T, eqb, ◌≢◌, ◌⊎◌, ◌∙◌, subst, inl, inr, mod-lt, mul_comm, div-add-mod', mul-one, mul-add, arith, eqb→eq}
 use lib.Dec.{eqb_refl}
+use Rattle.std.proofs.lemmas.Bool.{cases_eq, cases_lt}
 use Rattle.table.specs.Boxes.{InDirection, Long}
 use Rattle.table.specs.Rows.{level_of, rank}
 use Rattle.table.specs.Sums.{bit, sum}
 use Rattle.table.specs.declared.rows.Row.{Row}
-use Rattle.table.proofs.Sums.{bit_no, bit_yes, both, both_left, both_right, less, same, sum_add, sum_at, sum_cong, sum_const, sum_over, sum_short, test}
+use Rattle.table.proofs.Sums.{bit_no, bit_yes, both, both_left, both_right, sum_add, sum_at, sum_cong, sum_const, sum_over, sum_short, test}
 use Rattle.search.specs.Points.{Given, Kept, Side, is_long}
 
 -- the levels of a row differ by at most one
@@ -25,18 +26,18 @@ module _ (n : ℕ) (row : Row) (some : 1 ≤ n) where
       let t : ℕ = rank n row / n in
       let e = parts_of_rank in
       let m : rank n row % n < n = mod-lt (rank n row) some in
-      elim (less (level_of row d) t) [
+      elim (cases_lt (level_of row d) t) [
         | inl a ↦ absurd (omega (arith, mul_comm n t, sum_short n t (level_of row) d l a (λ i j. omega (arith, h.near i d j l))))
-        | inr a ↦ elim (less (t + 1) (level_of row d)) [
+        | inr a ↦ elim (cases_lt (t + 1) (level_of row d)) [
           | inl b ↦ absurd (omega (arith, mul-add n t 1, mul-one n, mul_comm n t, sum_over n (t + 1) (level_of row) (λ i j. omega (arith, h.near d i l j))))
-          | inr b ↦ elim (same (level_of row d) t) [ inl x ↦ inl x | inr x ↦ inr (omega arith) ]
+          | inr b ↦ elim (cases_eq (level_of row d) t) [ inl x ↦ inl x | inr x ↦ inr (omega arith) ]
         ]
       ]
 
   -- a side is long or not
   pub long? : (d : ℕ) → d < n → Long n row d ⊎ (Long n row d → ⊥)
   long? d l =
-      elim (same (level_of row d) (rank n row / n))
+      elim (cases_eq (level_of row d) (rank n row / n))
       [ inl e ↦ inl (record { direction = l; level = e }) | inr x ↦ inr (λ y. x y.level) ]
 
   pub long_yes : (d : ℕ) → Long n row d → T (is_long n row d)

@@ -4,7 +4,6 @@ pub mod Beginnings
 pub mod Bests
 pub mod Cells
 pub mod Chosen
-pub mod Clearing
 pub mod Closing
 pub mod CutBoxes
 pub mod CutRanks

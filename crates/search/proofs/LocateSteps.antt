@@ -1,5 +1,5 @@
 -- The rank, the long side and the cell of a point, as locate finds them.
-use Rattle.std.proofs.Common.{◌≡◌, ℕ, ◌+◌, ◌-◌, ◌*◌, ◌/◌, ◌%◌, ◌<◌, ◌≤◌, Bool, true, false, T, eqb, List, length, get_or, Some, None, Option, sym, refl, ap, ◌∙◌, subst, add-one, arith, eqb→eq}
+use Rattle.std.proofs.Common.{◌≡◌, ℕ, ◌+◌, ◌-◌, ◌*◌, ◌/◌, ◌%◌, ◌<◌, ◌≤◌, T, List, length, get_or, Some, None, Option, sym, refl, ap, ◌∙◌, subst, add-one, arith}
 use Rattle.std.proofs.lemmas.Bool.{eq-eqb, ne_eqb}
 use Rattle.order.specs.declared.records.Candidate.{Candidate}
 use Rattle.ranks.specs.Ranks.{ranks}
@@ -9,7 +9,7 @@ use Rattle.table.specs.Sums.{bit}
 use Rattle.table.specs.declared.rows.Row.{Row}
 use Rattle.search.specs.Calls.{LocatedIn}
 use Rattle.search.specs.Counts.{points_below}
-use Rattle.search.specs.Points.{Coordinate, is_long, longs_below, pick, point_at}
+use Rattle.search.specs.Points.{Coordinate, Side, high, is_long, longs_below, low, point_at}
 use Rattle.search.specs.declared.states.Round.{Round}
 use Rattle.search.proofs.Firsts.{box_level, some_first}
 use Rattle.search.proofs.Levels.{longs, near_own}
@@ -43,34 +43,29 @@ side_number n finest boxes table r j number some six own f l =
     omega (arith, longs n (row_at table j) some (near_own n finest (row_at table j) six (own.each j f.1.0.box.within).directions), ap (λ (x : ℕ). x % n) f.1.0.box.ranked)
 
 module _ (round : Round) (table : List Row) (p r j number d : ℕ) where
-  half : (b : Bool) → eqb (number % 2) 1 ≡ b → p ≡ points_below round.shape.n (ranks round.chosen) r + number → number / 2 ≡ longs_below round.shape.n (row_at table j) d
-      → p ≡ point_at round r (row_at table j) d (pick b)
-  half true e is h = let o : number % 2 ≡ 1 = eqb→eq (number % 2) 1 (subst T (sym e) tt) in omega arith
-  half false e is h =
-      let z : number % 2 ≡ 1 → ⊥ = λ x. subst T (sym (eq-eqb (number % 2) 1 x) ∙ e) tt in
-      omega arith
+  pub number_is : (s : Side) → (s ≡ low → number % 2 ≡ 0) → (s ≡ high → number % 2 ≡ 1) → p ≡ points_below round.shape.n (ranks round.chosen) r + number
+      → number / 2 ≡ longs_below round.shape.n (row_at table j) d → p ≡ point_at round r (row_at table j) d s
+  number_is low even odd is half = let e = even refl in omega arith
+  number_is high even odd is half = let o = odd refl in omega arith
 
-  pub number_is : p ≡ points_below round.shape.n (ranks round.chosen) r + number → number / 2 ≡ longs_below round.shape.n (row_at table j) d
-      → p ≡ point_at round r (row_at table j) d (pick (eqb (number % 2) 1))
-  number_is = half (eqb (number % 2) 1) refl
-
-pub located_in : (round : Round) (table : List Row) (p r j number d : ℕ) (list after : List ℕ)
+pub located_in : (round : Round) (table : List Row) (p r j number d : ℕ) (s : Side) (list after : List ℕ)
     → T (ranks round.chosen r) → First round.shape.n round.shape.finest round.boxes table r j
     → p ≡ points_below round.shape.n (ranks round.chosen) r + number
     → Long round.shape.n (row_at table j) d → number / 2 ≡ longs_below round.shape.n (row_at table j) d
-    → ((e : ℕ) → e < round.shape.n → Coordinate (row_at table j) d (pick (eqb (number % 2) 1)) e (get_or after e 0))
+    → (s ≡ low → number % 2 ≡ 0) → (s ≡ high → number % 2 ≡ 1)
+    → ((e : ℕ) → e < round.shape.n → Coordinate (row_at table j) d s e (get_or after e 0))
     → length after ≡ length list → ((e : ℕ) → round.shape.n ≤ e → get_or after e 0 ≡ get_or list e 0)
     → LocatedIn round table p list after
-located_in round table p r j number d list after chosen first is long half cell same rest = record {
+located_in round table p r j number d s list after chosen first is long half even odd cell same rest = record {
   cell = record {
     row = j;
     of = r;
     direction = d;
-    side = pick (eqb (number % 2) 1);
+    side = s;
     point = record {
       taken = record { in_set = chosen; first = first };
       long = long;
-      number = number_is round table p r j number d is half;
+      number = number_is round table p r j number d s even odd is half;
     };
     cell = record { moved = (cell d long.direction).moved refl; others = λ e l x. (cell e l).middle x };
   };

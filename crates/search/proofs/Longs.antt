@@ -1,11 +1,12 @@
 -- The long sides of a taken box, gathered by rising direction.
 use Rattle.std.proofs.Common.{◌≡◌, ℕ, zero, suc, ◌+◌, ◌-◌, ◌*◌, ◌/◌, ◌%◌, ◌<◌, ◌≤◌, List, length, set, sym, ap, ◌∙◌, subst, inl, inr, add-one, arith}
 use Rattle.std.proofs.lemmas.List.{get_or-set_same, get_or-set_other}
+use Rattle.std.proofs.lemmas.Bool.{cases_eq}
 use Rattle.table.specs.declared.rows.Row.{Row}
 use Rattle.table.specs.Sums.{bit}
 use Rattle.table.specs.Rows.{row_at, level_of}
 use Rattle.table.specs.Boxes.{Long}
-use Rattle.table.proofs.Sums.{test, bit_yes, bit_no, same, sum_fits}
+use Rattle.table.proofs.Sums.{test, bit_yes, bit_no, sum_fits}
 use Rattle.search.specs.declared.sides.LongSide.{LongSide}
 use Rattle.search.specs.Points.{is_long, longs_below}
 use Rattle.search.specs.Cutting.{Taking, Cuttable, side_at, with_row, side_for}
@@ -22,7 +23,7 @@ module _ (n : ℕ) (row : Row) (some : 1 ≤ n) where
   pub at_place : (m k : ℕ) → m ≤ n → k < longs_below n row m → (d : ℕ) × Long n row d × (longs_below n row d ≡ k)
   at_place zero k h l = absurd (omega arith)
   at_place (suc m) k h l = elim (test (is_long n row m)) [
-    | inl t ↦ elim (same k (longs_below n row m)) [
+    | inl t ↦ elim (cases_eq k (longs_below n row m)) [
       | inl e ↦ (m, long_is n row some m (omega arith) t, sym e)
       | inr x ↦ at_place m k (omega arith) (omega (arith, bit_yes (is_long n row m) t))
     ]
@@ -56,7 +57,7 @@ module _ (n r : ℕ) (table : List Row) (j base : ℕ) (t : Taking n r table j b
       → new ≡ with_row table d (base + 2 * count)
       → ((e : ℕ) → e < d → Long n (row_at table j) e → side_at sides (longs_below n (row_at table j) e) ≡ side_for n table j base e)
       → (e : ℕ) → e < d + 1 → Long n (row_at table j) e → side_at (set sides count new) (longs_below n (row_at table j) e) ≡ side_for n table j base e
-  long_more sides d count new six h lev at below is filled e l g = elim (same e d) [
+  long_more sides d count new six h lev at below is filled e l g = elim (cases_eq e d) [
     | inl q ↦ subst (λ (x : ℕ). side_at (set sides count new) (longs_below n (row_at table j) x) ≡ side_for n table j base x) (sym q) here
     | inr x ↦
         get_or-set_other sides count (longs_below n (row_at table j) e) new _ (omega (arith, at, place_apart n (row_at table j) t.some e d g (long_here d h lev) (omega arith)))
@@ -81,7 +82,7 @@ module _ (n r : ℕ) (table : List Row) (j base : ℕ) (t : Taking n r table j b
   pub long_same : (sides : List LongSide) (d : ℕ) → (level_of (row_at table j) d ≡ r / n → ⊥)
       → ((e : ℕ) → e < d → Long n (row_at table j) e → side_at sides (longs_below n (row_at table j) e) ≡ side_for n table j base e)
       → (e : ℕ) → e < d + 1 → Long n (row_at table j) e → side_at sides (longs_below n (row_at table j) e) ≡ side_for n table j base e
-  long_same sides d ne filled e l g = elim (same e d) [
+  long_same sides d ne filled e l g = elim (cases_eq e d) [
     | inl q ↦ absurd (short d ne (subst (Long n (row_at table j)) q g))
     | inr x ↦ filled e (omega arith) g
   ]

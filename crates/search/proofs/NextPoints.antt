@@ -1,5 +1,6 @@
 -- Which points of a round wait after it is opened and after each answer, and whose table it is then.
 use Rattle.std.proofs.Common.{ℕ, ◌+◌, ◌<◌, ◌≤◌, Bool, cond, T, List, Some, None, sym, ap, ◌∙◌, subst, subst₂, inl, inr, arith}
+use Rattle.std.proofs.lemmas.Bool.{cases_eq}
 use Rattle.order.specs.Answers.{allowed}
 use Rattle.order.specs.declared.answer.Answer.{Answer}
 use Rattle.policy.specs.declared.front.Front.{Front}
@@ -8,7 +9,7 @@ use Rattle.table.specs.Boxes.{Own}
 use Rattle.table.specs.Entries.{none_shown, waiting}
 use Rattle.table.specs.declared.rows.Row.{Row}
 use Rattle.table.specs.declared.shape.Shape.{Shape}
-use Rattle.table.proofs.Sums.{same, yes_is}
+use Rattle.table.proofs.Sums.{yes_is}
 use Rattle.search.specs.Calls.{NoneWaits, OwnRest, Waits}
 use Rattle.search.specs.Runs.{LawfulAt}
 use Rattle.search.specs.Turns.{AnsweredBelow}
@@ -37,7 +38,7 @@ module _ (round : Round) (table : List Row) (p : ℕ) (a : Answer) (after : List
 
   below : (q : ℕ) → q < p + 1 → Waits round after q → ⊥
   below q l w =
-      elim (same q p) [
+      elim (cases_eq q p) [
         | inl e ↦ here (subst (Waits round after) e w)
         | inr x ↦ h.answered q (omega arith) (subst (λ (r : Row). T (waiting r.entry)) (row_other round table p a after k (round.boxes + q) (omega arith)) w)
       ]

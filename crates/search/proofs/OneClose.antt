@@ -1,12 +1,13 @@
 -- Closing has one outcome.
 use Rattle.std.proofs.Common.{◌≡◌, ℕ, ◌+◌, ◌-◌, ◌<◌, ◌≤◌, Bool, ◌⊎◌, List, sym, ◌∙◌, subst, inl, inr, arith}
 use Rattle.std.proofs.lemmas.List.{ext_get_or}
+use Rattle.std.proofs.lemmas.Bool.{cases_eq, cases_lt}
 use Rattle.refusal.specs.Checks.{Gives}
 use Rattle.refusal.specs.declared.Refusal.TheVariants.{NotOwnTable, PointWaits}
 use Rattle.table.specs.Boxes.{Long}
-use Rattle.table.specs.Rows.{first_of, level_of, no_row, row_at}
+use Rattle.table.specs.Rows.{all_cells, first_of, level_of, no_row, row_at}
 use Rattle.table.specs.declared.rows.Row.{Row}
-use Rattle.table.proofs.Sums.{less, same, test}
+use Rattle.table.proofs.Sums.{test}
 use Rattle.search.specs.Calls.{Closes, ClosesIn, CutAll, NoneWaits, OwnRound, Rested}
 use Rattle.search.specs.Once.{One}
 use Rattle.search.specs.Points.{Given, Kept, Side, Six}
@@ -18,13 +19,12 @@ use Rattle.search.proofs.Places.{point_of, taken?}
 
 same_row : (a b : Row) → Six a → Six b → ((d : ℕ) → d < 6 → (first_of a d ≡ first_of b d) × (level_of a d ≡ level_of b d)) → a.entry ≡ b.entry → a ≡ b
 same_row a b s t h e =
-    let p : a.firsts ≡ b.firsts = ext_get_or 0 a.firsts b.firsts (s.firsts ∙ sym t.firsts) (λ i l. (h i (omega (arith, s.firsts))).0) in
-    let q : a.levels ≡ b.levels = ext_get_or 0 a.levels b.levels (s.levels ∙ sym t.levels) (λ i l. (h i (omega (arith, s.levels))).1) in
-    λ i. record { firsts = p i; levels = q i; entry = e i }
+    let p : a.spans ≡ b.spans = ext_get_or all_cells a.spans b.spans (s ∙ sym t) (λ d l. let g = h d (omega (arith, s)) in λ i. record { first = g.0 i; level = g.1 i }) in
+    λ i. record { spans = p i; entry = e i }
 
 module _ (n : ℕ) (old : Row) (some : 1 ≤ n) where
   is_long? : (d : ℕ) → Long n old d ⊎ (Long n old d → ⊥)
-  is_long? d = elim (less d n) [ inl l ↦ long? n old some d l | inr l ↦ inr (λ x. let h = x.direction in omega arith) ]
+  is_long? d = elim (cases_lt d n) [ inl l ↦ long? n old some d l | inr l ↦ inr (λ x. let h = x.direction in omega arith) ]
 
   kept_one : (a b : Row) → Kept n old a → Kept n old b → a.entry ≡ b.entry → a ≡ b
   kept_one a b x y e = same_row a b x.six y.six (λ d h. elim (is_long? d) [
@@ -33,7 +33,7 @@ module _ (n : ℕ) (old : Row) (some : 1 ≤ n) where
   ]) e
 
   given_one : (a b : Row) (d : ℕ) (s : Side) (f : ℕ → Bool) → Given n old a d s f → Given n old b d s f → a.entry ≡ b.entry → a ≡ b
-  given_one a b d s f x y e = same_row a b x.six y.six (λ c h. elim (same c d) [
+  given_one a b d s f x y e = same_row a b x.six y.six (λ c h. elim (cases_eq c d) [
     | inl z ↦ subst (λ (k : ℕ). (first_of a k ≡ first_of b k) × (level_of a k ≡ level_of b k)) (sym z) (x.own.first ∙ sym y.own.first, x.own.level ∙ sym y.own.level)
     | inr ne ↦ elim (is_long? c) [
       | inl l ↦ elim (test (f c)) [
@@ -50,12 +50,12 @@ module _ (round : Round) (table : List Row) where
     entry_same m = one.entries m ∙ sym (two.entries m)
 
     row_same : (m : ℕ) → row_at a m ≡ row_at b m
-    row_same m = elim (less m round.boxes) [
+    row_same m = elim (cases_lt m round.boxes) [
       | inl l ↦ elim (taken? round table own m) [
         | inl t ↦ kept_one round.shape.n (row_at table m) round.shape.some (row_at a m) (row_at b m) (one.taken t.0 m t.1) (two.taken t.0 m t.1) (entry_same m)
         | inr t ↦ one.others m l t ∙ sym (two.others m l t)
       ]
-      | inr l ↦ elim (less m (round.boxes + round.points)) [
+      | inr l ↦ elim (cases_lt m (round.boxes + round.points)) [
         | inl h ↦
             let e : round.boxes + (m - round.boxes) ≡ m = omega arith in
             let p = point_of round table own (m - round.boxes) (omega arith) in

@@ -1,9 +1,10 @@
 -- A point has one rank, box and side, so locating has one outcome; and with it every call.
 use Rattle.std.proofs.Common.{◌≡◌, ℕ, ◌<◌, ◌≤◌, List, get_or, sym, refl, ap, ◌∙◌, subst, ap₂, inl, inr, arith}
 use Rattle.std.proofs.lemmas.List.{ext_get_or}
+use Rattle.std.proofs.lemmas.Bool.{cases_eq, cases_lt}
 use Rattle.ranks.specs.Ranks.{ranks}
 use Rattle.refusal.specs.declared.Refusal.TheVariants.{NoSuchPoint, NotOwnTable, ShortCellList}
-use Rattle.table.proofs.Sums.{bit_yes, less, same, sum_fits}
+use Rattle.table.proofs.Sums.{bit_yes, sum_fits}
 use Rattle.table.specs.Boxes.{First, Long}
 use Rattle.table.specs.Rows.{row_at}
 use Rattle.table.specs.Sums.{bit}
@@ -36,18 +37,18 @@ module _ (round : Round) (table : List Row) (own : OwnRound round table) where
       )
 
   rank_one : (p r r' j j' d d' : ℕ) (s s' : Side) → IsPoint round table p r j d s → IsPoint round table p r' j' d' s' → r ≡ r'
-  rank_one p r r' j j' d d' s s' x y = elim (less r r') [
+  rank_one p r r' j j' d d' s s' x y = elim (cases_lt r r') [
     | inl l ↦ absurd (not_less p r r' j j' d d' s s' x y l)
-    | inr g ↦ elim (same r r') [ inl e ↦ e | inr ne ↦ absurd (not_less p r' r j' j d' d s' s y x (omega arith)) ]
+    | inr g ↦ elim (cases_eq r r') [ inl e ↦ e | inr ne ↦ absurd (not_less p r' r j' j d' d s' s y x (omega arith)) ]
   ]
 
   side_less : (row : Row) (d e : ℕ) → Long round.shape.n row d → d < e → longs_below round.shape.n row d < longs_below round.shape.n row e
   side_less row d e l h = omega (arith, sum_fits e (λ k. bit (is_long round.shape.n row k)) d h, bit_yes (is_long round.shape.n row d) (long_yes round.shape.n row round.shape.some d l))
 
   direction_one : (row : Row) (d e : ℕ) → Long round.shape.n row d → Long round.shape.n row e → longs_below round.shape.n row d ≡ longs_below round.shape.n row e → d ≡ e
-  direction_one row d e l k h = elim (less d e) [
+  direction_one row d e l k h = elim (cases_lt d e) [
     | inl x ↦ absurd (omega (arith, side_less row d e l x))
-    | inr x ↦ elim (same d e) [ inl p ↦ p | inr ne ↦ absurd (omega (arith, side_less row e d k (omega arith))) ]
+    | inr x ↦ elim (cases_eq d e) [ inl p ↦ p | inr ne ↦ absurd (omega (arith, side_less row e d k (omega arith))) ]
   ]
 
   side_one : (r : ℕ) (row : Row) (d e : ℕ) (s t : Side) → Long round.shape.n row d → Long round.shape.n row e → point_at round r row d s ≡ point_at round r row e t → (d ≡ e) × (s ≡ t)
@@ -61,7 +62,7 @@ module _ (round : Round) (table : List Row) (own : OwnRound round table) where
   moved_one high f t x y p q = omega arith
 
   cell_one : (row : Row) (d : ℕ) (s : Side) (a b : List ℕ) → CellOf round.shape.n row d s a → CellOf round.shape.n row d s b → (e : ℕ) → e < round.shape.n → get_or a e 0 ≡ get_or b e 0
-  cell_one row d s a b x y e l = elim (same e d) [
+  cell_one row d s a b x y e l = elim (cases_eq e d) [
     | inl p ↦ ap (λ k. get_or a k 0) p ∙ moved_one s _ _ _ _ x.moved y.moved ∙ sym (ap (λ k. get_or b k 0) p)
     | inr ne ↦ x.others e l ne ∙ sym (y.others e l ne)
   ]
@@ -80,7 +81,7 @@ module _ (round : Round) (table : List Row) (own : OwnRound round table) where
       subst (λ d. CellOf round.shape.n (row_at table g.row) d g.side a) place.0
       (subst (λ s. CellOf round.shape.n (row_at table g.row) f.direction s a) place.1
       (subst (λ j. CellOf round.shape.n (row_at table j) f.direction f.side a) row f.cell)) in
-      ext_get_or 0 a b (x.same_length ∙ sym y.same_length) (λ e h. elim (less e round.shape.n) [
+      ext_get_or 0 a b (x.same_length ∙ sym y.same_length) (λ e h. elim (cases_lt e round.shape.n) [
         | inl l ↦ cell_one (row_at table g.row) g.direction g.side a b cell g.cell e l
         | inr l ↦ x.nothing_after e l ∙ sym (y.nothing_after e l)
       ])

@@ -1,5 +1,6 @@
 -- The table after open is the round's own, and opening keeps what holds.
 use Rattle.std.proofs.Common.{◌≡◌, ℕ, ◌+◌, ◌-◌, ◌<◌, ◌≤◌, true, T, ◌≢◌, ◌⊎◌, List, [], map, length, get_or, None, sym, refl, ap, ◌∙◌, subst, ap₂, subst₂, inl, inr, arith, length-append, get_or-append-add}
+use Rattle.std.proofs.lemmas.Bool.{cases_lt}
 use mathlib.Core.Path.{subst₃}
 use lib.ListN.{get_or-append, length-map}
 use Rattle.std.proofs.lemmas.List.{get_or-map}
@@ -11,7 +12,7 @@ use Rattle.table.specs.Fronts.{FrontOf}
 use Rattle.table.specs.Rows.{IsMiddle, LiesIn, rank, row_at}
 use Rattle.table.specs.declared.rows.Row.{Row}
 use Rattle.table.specs.declared.shape.Shape.{Shape}
-use Rattle.table.proofs.Sums.{less, yes_is}
+use Rattle.table.proofs.Sums.{yes_is}
 use Rattle.search.specs.Calls.{LocatedIn, OwnRound}
 use Rattle.search.specs.Points.{CellOf, Located, point_at}
 use Rattle.search.specs.Runs.{Book, CellsOf, LawfulAt, Noted, noted, opened_book}
@@ -125,7 +126,7 @@ module _ (meaning : Front → Ranks) (rest : Rest) (table : List Row) (round : R
         → ((i < round.boxes) × (noted (opened_book book cells) i ≡ noted book i))
         ⊎ ((p : ℕ) × (p < round.points) × (i ≡ round.boxes + p) × (noted (opened_book book cells) i ≡ record { cell = get_or cells p []; answer = None }))
     cell_of i l =
-        elim (less i round.boxes) [
+        elim (cases_lt i round.boxes) [
           | inl a ↦ inl (a, noted_old i a)
           | inr a ↦
               let p : ℕ = i - round.boxes in

@@ -1,13 +1,14 @@
 -- The rows that one cut more makes.
 use Rattle.std.proofs.Common.{◌≡◌, ℕ, ◌+◌, ◌<◌, ◌≢◌, ◌⊎◌, List, length, set, sym, refl, ap, ◌∙◌, subst, inl, inr, arith}
 use Rattle.std.proofs.lemmas.List.{length-set, get_or-set_same, get_or-set_other}
+use Rattle.std.proofs.lemmas.Bool.{cases_eq}
 use Rattle.grid.specs.Grid.{IsInterval}
 use Rattle.grid.specs.declared.interval.Interval.{Interval}
 use Rattle.grid.specs.declared.interval.cut.Thirds.{Thirds}
-use Rattle.table.specs.Rows.{row_at, no_row, first_of, level_of}
+use Rattle.table.specs.Rows.{all_cells, row_at, no_row, first_of, level_of, span_of}
+use Rattle.table.specs.declared.rows.Span.{Span}
 use Rattle.table.specs.declared.rows.Entry.{Entry}
 use Rattle.table.specs.declared.rows.Row.{Row}
-use Rattle.table.proofs.Sums.{same}
 use Rattle.search.specs.Points.{Side, low, high, Third, middle, outer, start_of, IsThird, Same, Six}
 use Rattle.search.specs.Cutting.{Cuttable, PartOf, ThirdsIn, with_side, side_at, row_of, Ahead, MiddleOf, OuterOf, Sides, CutAlong}
 use Rattle.search.specs.declared.sides.LongSide.{LongSide}
@@ -15,16 +16,19 @@ use Rattle.search.specs.declared.sides.LongSide.{LongSide}
 -- an interval for side d
 module _ (row : Row) (d : ℕ) (i : Interval) (e : Entry) (six : Six row) (l : d < 6) where
   side_six : Six (with_side row d i e)
-  side_six = record { firsts = length-set row.firsts d i.first ∙ six.firsts; levels = length-set row.levels d i.level ∙ six.levels }
+  side_six = length-set row.spans d (span_of i) ∙ six
 
   side_here : (p : Third) → PartOf p row d i → IsThird p row (with_side row d i e) d
   side_here p part = record {
-    first = get_or-set_same row.firsts d i.first 0 (omega (arith, six.firsts)) ∙ part.first;
-    level = get_or-set_same row.levels d i.level 0 (omega (arith, six.levels)) ∙ part.level;
+    first = ap (λ (s : Span). s.first) (get_or-set_same row.spans d (span_of i) all_cells (omega (arith, six))) ∙ part.first;
+    level = ap (λ (s : Span). s.level) (get_or-set_same row.spans d (span_of i) all_cells (omega (arith, six))) ∙ part.level;
   }
 
   side_there : (x : ℕ) → x ≢ d → Same row (with_side row d i e) x
-  side_there x ne = record { first = get_or-set_other row.firsts d x i.first 0 ne; level = get_or-set_other row.levels d x i.level 0 ne }
+  side_there x ne = record {
+    first = ap (λ (s : Span). s.first) (get_or-set_other row.spans d x (span_of i) all_cells ne);
+    level = ap (λ (s : Span). s.level) (get_or-set_other row.spans d x (span_of i) all_cells ne);
+  }
 
   -- what is left of the box old, when some directions are cut and d is not
   module _ (old : Row) (cuts : ℕ → Type 0) (left : MiddleOf old row cuts) (not-d : cuts d → ⊥) where
@@ -47,7 +51,7 @@ module _ (row : Row) (d : ℕ) (i : Interval) (e : Entry) (six : Six row) (l : d
 
     middle_left : PartOf middle row d i → (more : ℕ → Type 0) → ((x : ℕ) → more x → cuts x ⊎ (x ≡ d)) → ((x : ℕ) → cuts x → more x) → more d → MiddleOf old (with_side row d i e) more
     middle_left part more from to own = record {
-      cut = λ x m. elim (same x d) [
+      cut = λ x m. elim (cases_eq x d) [
         | inl q ↦ subst (λ (y : ℕ). IsThird middle old (with_side row d i e) y) (sym q) (here middle part)
         | inr ne ↦ elim (from x m) [ inl c ↦ there_cut x ne c | inr q ↦ absurd (ne q) ]
       ];
@@ -116,9 +120,9 @@ module _ (table : List Row) (j : ℕ) (sides : List LongSide) (ok : Sides table 
       elsewhere m p q = get_or-set_other (set after (side_at sides i).row x) ((side_at sides i).row + 1) m y no_row q ∙ get_or-set_other after (side_at sides i).row m x no_row p
 
       entries_more : (m : ℕ) → (row_at out m).entry ≡ (row_at after m).entry
-      entries_more m = elim (same m (side_at sides i).row) [
+      entries_more m = elim (cases_eq m (side_at sides i).row) [
         | inl e ↦ ap (λ (k : ℕ). (row_at out k).entry) e ∙ ap (λ (r : Row). r.entry) at_low ∙ same-x ∙ ap (λ (k : ℕ). (row_at after k).entry) (sym e)
-        | inr p ↦ elim (same m ((side_at sides i).row + 1)) [
+        | inr p ↦ elim (cases_eq m ((side_at sides i).row + 1)) [
           | inl e ↦ ap (λ (k : ℕ). (row_at out k).entry) e ∙ ap (λ (r : Row). r.entry) at_high ∙ same-y
               ∙ ap (λ (r : Row). r.entry) (get_or-set_other after (side_at sides i).row ((side_at sides i).row + 1) x no_row (omega arith)) ∙ ap (λ (k : ℕ). (row_at after k).entry) (sym e)
           | inr q ↦ ap (λ (r : Row). r.entry) (elsewhere m p q)
@@ -127,7 +131,7 @@ module _ (table : List Row) (j : ℕ) (sides : List LongSide) (ok : Sides table 
 
       given_more : (k : ℕ) (s : Side) → k < i + 1
           → OuterOf (row_at table j) (row_at out (row_of (side_at sides k) s)) (side_at sides k).direction.number s (Ahead sides k)
-      given_more k s l = elim (same k i) [
+      given_more k s l = elim (cases_eq k i) [
         | inl e ↦ subst (λ (n : ℕ). OuterOf (row_at table j) (row_at out (row_of (side_at sides n) s)) (side_at sides n).direction.number s (Ahead sides n)) (sym e) (new s)
         | inr p ↦ subst (λ (r : Row). OuterOf (row_at table j) r (side_at sides k).direction.number s (Ahead sides k))
             (sym (elsewhere (row_of (side_at sides k) s) (ok.apart k i (omega arith) fits p s low) (ok.apart k i (omega arith) fits p s high)))
@@ -139,7 +143,7 @@ module _ (table : List Row) (j : ℕ) (sides : List LongSide) (ok : Sides table 
           new high = subst (λ (r : Row). OuterOf (row_at table j) r (side_at sides i).direction.number high (Ahead sides i)) (sym at_high) gives-y
 
       ahead_from : (e : ℕ) → Ahead sides (i + 1) e → Ahead sides i e ⊎ (e ≡ (side_at sides i).direction.number)
-      ahead_from e h = elim (same h.0 i) [
+      ahead_from e h = elim (cases_eq h.0 i) [
         | inl q ↦ inr (sym h.2 ∙ ap (λ (k : ℕ). (side_at sides k).direction.number) q)
         | inr n ↦ let l = h.1 in inl (h.0, omega arith, h.2)
       ]
@@ -171,7 +175,7 @@ module _ (table : List Row) (j : ℕ) (sides : List LongSide) (ok : Sides table 
       let here : row_at (set after j left) j ≡ left = get_or-set_same after j left no_row (omega (arith, ok.within, to.same_length)) in
       record {
         same_length = length-set after j left ∙ to.same_length;
-        entries = λ m. elim (same m j) [
+        entries = λ m. elim (cases_eq m j) [
           | inl q ↦ ap (λ (k : ℕ). (row_at (set after j left) k).entry) q ∙ ap (λ (r : Row). r.entry) here ∙ to.entry ∙ ap (λ (k : ℕ). (row_at table k).entry) (sym q)
           | inr n ↦ ap (λ (r : Row). r.entry) (get_or-set_other after j m left no_row n) ∙ to.entries m
         ];

@@ -1,11 +1,12 @@
 -- The sides of a row that closing makes of a box: the row lies in the box, and is a box too.
 use Rattle.std.proofs.Common.{ℕ, ◌+◌, ◌/◌, ◌<◌, ◌≤◌, Bool, List, get_or, sym, ◌∙◌, subst, subst₂, inl, inr, arith}
+use Rattle.std.proofs.lemmas.Bool.{cases_eq, cases_lt}
 use Rattle.grid.specs.Grid.{IsInterval}
 use Rattle.grid.proofs.Lengths.{third}
 use Rattle.table.specs.Boxes.{InDirection, Long}
 use Rattle.table.specs.Rows.{LiesIn, first_of, level_of, rank}
 use Rattle.table.specs.declared.rows.Row.{Row}
-use Rattle.table.proofs.Sums.{less, same, test}
+use Rattle.table.proofs.Sums.{test}
 use Rattle.search.specs.Points.{Given, IsThird, Kept, Same, Side, Third, lower, middle, outer, start_of, upper}
 use Rattle.search.proofs.Cuts.{from_same, from_third, lies, lies_at}
 use Rattle.search.proofs.Levels.{Near, level_is, long?, near_own}
@@ -19,16 +20,16 @@ pub data Piece (n finest : ℕ) (old new : Row) (d : ℕ) : Type 0 where
 module _ (n finest : ℕ) (old new : Row) (some : 1 ≤ n) (below : rank n old / n < finest) where
   pub kept_piece : Kept n old new → (d : ℕ) → d < 6 → Piece n finest old new d
   kept_piece k d l =
-      elim (less d n) [
+      elim (cases_lt d n) [
         | inl a ↦ elim (long? n old some d a) [ inl x ↦ cut middle x (omega (arith, x.level)) (k.cut d x) | inr x ↦ stays (k.rest d l x) ]
         | inr a ↦ stays (k.rest d l (λ x. absurd (omega (arith, x.direction))))
       ]
 
   pub given_piece : (d : ℕ) (s : Side) (first : ℕ → Bool) → Long n old d → Given n old new d s first → (e : ℕ) → e < 6 → Piece n finest old new e
   given_piece d s first long g e l =
-      elim (same e d) [
+      elim (cases_eq e d) [
         | inl x ↦ subst (Piece n finest old new) (sym x) (cut (outer s) long (omega (arith, long.level)) g.own)
-        | inr x ↦ elim (less e n) [
+        | inr x ↦ elim (cases_lt e n) [
           | inl a ↦ elim (long? n old some e a) [
             | inl y ↦ elim (test (first e)) [
               | inl t ↦ cut middle y (omega (arith, y.level)) (g.cut e y x t)

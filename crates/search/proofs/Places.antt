@@ -1,5 +1,6 @@
 -- The numbers of a round's points: each is below their count, and each number below the count is that of one long side.
 use Rattle.std.proofs.Common.{◌≡◌, ℕ, zero, suc, ◌+◌, ◌-◌, ◌*◌, ◌/◌, ◌%◌, ◌<◌, ◌≤◌, Bool, cond, T, ◌⊎◌, List, sym, ap, ◌∙◌, subst, inl, inr, arith}
+use Rattle.std.proofs.lemmas.Bool.{cases_eq, cases_lt}
 use Rattle.ranks.specs.Ranks.{Ranks, ranks}
 use Rattle.ranks.proofs.Sets.{member_bound}
 use Rattle.table.specs.Boxes.{First, Long}
@@ -7,7 +8,7 @@ use Rattle.table.specs.Rows.{rank, row_at}
 use Rattle.table.specs.Sums.{bit}
 use Rattle.table.specs.declared.rows.Row.{Row}
 use Rattle.table.proofs.Chains.{size}
-use Rattle.table.proofs.Sums.{bit_no, bit_yes, less, no_is, same, sum_fits, test, yes_is}
+use Rattle.table.proofs.Sums.{bit_no, bit_yes, no_is, sum_fits, test, yes_is}
 use Rattle.search.specs.Calls.{OwnRound}
 use Rattle.search.specs.Counts.{points_below, points_of}
 use Rattle.search.specs.Points.{IsPoint, Side, Taken, high, is_long, low, point_at}
@@ -32,7 +33,7 @@ rank_of : (n : ℕ) (p : Ranks) (top m : ℕ) → m < points_below n p top
     → (r : ℕ) × (r < top) × T (p r) × ((k : ℕ) × (k < 2 * (n - r % n)) × (m ≡ points_below n p r + k))
 rank_of n p zero m l = absurd (omega arith)
 rank_of n p (suc top) m l =
-    elim (less m (points_below n p top)) [
+    elim (cases_lt m (points_below n p top)) [
       | inl a ↦ let f = rank_of n p top m a in (f.0, omega (arith, f.1), f.2, f.3)
       | inr a ↦ elim (test (p top)) [
         | inl t ↦ (
@@ -49,7 +50,7 @@ rank_of n p (suc top) m l =
 member_of : (n : ℕ) (L : ℕ → Bool) (m : ℕ) → m < size n L → (d : ℕ) × (d < n) × T (L d) × (size d L ≡ m)
 member_of zero L m l = absurd (omega arith)
 member_of (suc n) L m l =
-    elim (less m (size n L)) [
+    elim (cases_lt m (size n L)) [
       | inl a ↦ let f = member_of n L m a in (f.0, omega (arith, f.1), f.2, f.3)
       | inr a ↦ elim (test (L n)) [
         | inl t ↦ (n, omega arith, t, omega (arith, bit_yes (L n) t))
@@ -78,7 +79,7 @@ module _ (round : Round) (table : List Row) (own : OwnRound round table) where
       elim (test (ranks round.chosen r)) [
         | inl t ↦
             let box = box_taken r t in
-            elim (same box.0 j) [
+            elim (cases_eq box.0 j) [
               | inl e ↦ inl (r, subst (Taken round table r) e box.1)
               | inr x ↦ inr (λ q y. x (first_unique n round.shape.finest round.boxes table r box.0 j box.1.first
                   (subst (λ z. First n round.shape.finest round.boxes table z j) (sym y.first.1.0.box.ranked) y.first)))
@@ -118,7 +119,7 @@ module _ (round : Round) (table : List Row) (own : OwnRound round table) where
         let j : ℕ = box.0 in
         let g = member_of n (is_long n (row_at table j)) (k / 2) (omega (arith, f.3.1, long_sides r j box.1)) in
         let long : Long n (row_at table j) g.0 = long_is n (row_at table j) round.shape.some g.0 g.1 g.2 in
-        elim (same (k % 2) 0) [
+        elim (cases_eq (k % 2) 0) [
           | inl e ↦ (r, j, g.0, low, record { taken = box.1; long = long; number = omega (arith, f.3.2, g.3) })
           | inr e ↦ (r, j, g.0, high, record { taken = box.1; long = long; number = omega (arith, f.3.2, g.3) })
         ]

@@ -1,10 +1,10 @@
 -- The points of a set of ranks, as its lowest ranks are taken out.
 use Rattle.std.proofs.Common.{◌≡◌, ℕ, ◌+◌, ◌-◌, ◌*◌, ◌%◌, ◌<◌, ◌≤◌, Bool, true, false, cond, sym, refl, ap, ◌∙◌, subst, inl, inr, arith}
-use Rattle.std.proofs.lemmas.Bool.{both_ways}
+use Rattle.std.proofs.lemmas.Bool.{both_ways, cases_eq}
 use Rattle.ranks.specs.Ranks.{Ranks, none, without, Lowest}
 use Rattle.ranks.proofs.Changes.{without_here, without_other}
 use Rattle.ranks.proofs.Lowest.{not_below}
-use Rattle.table.proofs.Sums.{same, sum_at, sum_cong, sum_split, sum_zero, sum_under}
+use Rattle.table.proofs.Sums.{sum_at, sum_cong, sum_split, sum_zero, sum_under}
 use Rattle.search.specs.Counts.{points_below, points_of}
 
 -- the points of rank q
@@ -54,7 +54,7 @@ module _ (n : ℕ) (p : Ranks) (r : ℕ) (w : Lowest p r) where
 
   pub tail_less : (q : Ranks) → Tail q p → Tail q (without p r)
   tail_less q tail k h i l =
-      elim (same k r) [
+      elim (cases_eq k r) [
         | inl e ↦ absurd (both_ways (without p r k) (subst (λ x. without p r x ≡ false) (sym e) (without_here p r)) h)
         | inr ne ↦
             let here : p k ≡ true = sym (without_other p r k ne) ∙ h in

@@ -1,6 +1,6 @@
 -- The filled ranks of a front are those of boxes that can be cut, and the largest of these are chosen.
 use Rattle.std.proofs.Common.{◌≡◌, ℕ, zero, suc, ◌*◌, ◌/◌, ◌<◌, ◌≤◌, true, ◌≢◌, ◌⊎◌, List, is_some, Some, None, Option, sym, refl, ap, ◌∙◌, subst, inl, inr, mul-le-mul_right, mul_comm, div-lt_iff_lt-mul, arith}
-use Rattle.std.proofs.lemmas.Bool.{true≢false}
+use Rattle.std.proofs.lemmas.Bool.{true≢false, cases_eq, cases_lt}
 use Rattle.order.specs.declared.records.Candidate.{Candidate}
 use Rattle.policy.specs.Levels.{filled}
 use Rattle.policy.specs.Rules.{ReachesLargest}
@@ -14,7 +14,6 @@ use Rattle.table.specs.Rows.{rank, row_at}
 use Rattle.table.specs.Sums.{sum}
 use Rattle.table.specs.declared.rows.Row.{Row}
 use Rattle.table.proofs.FirstBoxes.{rank_bound}
-use Rattle.table.proofs.Sums.{less, same}
 use Rattle.search.proofs.Falling.{weight}
 use Rattle.search.proofs.Firsts.{some_first}
 use Rattle.search.proofs.Weights.{done}
@@ -22,7 +21,7 @@ use Rattle.search.proofs.Weights.{done}
 pub sum_some : (n : ℕ) (f : ℕ → ℕ) → sum n f ≢ 0 → (i : ℕ) × (i < n) × (f i ≢ 0)
 sum_some zero f h = absurd (h refl)
 sum_some (suc n) f h =
-    elim (same (f n) 0) [
+    elim (cases_eq (f n) 0) [
       | inl e ↦ let s = sum_some n f (λ x. h (omega arith)) in (s.0, omega (arith, s.1), s.2)
       | inr x ↦ (n, omega arith, x)
     ]
@@ -40,7 +39,7 @@ module _ (n finest boxes : ℕ) (table : List Row) where
     pub filled_box : (r : ℕ) → filled front r ≡ true → (j : ℕ) × OfRank n finest boxes table r j
     unfolding filled
     filled_box r h =
-        let bound : r < 114 = elim (less r 114) [ inl l ↦ l | inr l ↦ absurd (true≢false (sym h ∙ filled_end front r l)) ] in
+        let bound : r < 114 = elim (cases_lt r 114) [ inl l ↦ l | inr l ↦ absurd (true≢false (sym h ∙ filled_end front r l)) ] in
         let e = of.entries r bound in
         candidate_box r e.0 e.1 (sym (ap is_some e.2) ∙ h)
 
@@ -56,12 +55,12 @@ module _ (n finest boxes : ℕ) (table : List Row) where
       pub low_chosen : (chosen : Ranks) → ReachesLargest front chosen → (k : ℕ) → k ≤ finest
           → (sum boxes (weight n k table) ≡ 0) ⊎ ((c : ℕ) × (chosen c ≡ true) × (c < k * n))
       low_chosen chosen reaches k most =
-          elim (same (sum boxes (weight n k table)) 0) [
+          elim (cases_eq (sum boxes (weight n k table)) 0) [
             | inl e ↦ inl e
             | inr x ↦
                 let i = sum_some boxes (weight n k table) x in
                 let r : ℕ = rank n (row_at table i.0) in
-                let small : r < k * n = elim (less r (k * n)) [ inl y ↦ y | inr y ↦ absurd (i.2 (done n k r y)) ] in
+                let small : r < k * n = elim (cases_lt r (k * n)) [ inl y ↦ y | inr y ↦ absurd (i.2 (done n k r y)) ] in
                 let unfinished : r < n * finest = omega (arith, mul-le-mul_right n most, mul_comm finest n) in
                 let q = least_of (filled front) r (box_filled r i.0 (record { within = i.1; ranked = refl; unfinished = unfinished })) in
                 let c = reaches q.0 q.1 in

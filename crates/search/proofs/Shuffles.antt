@@ -4,7 +4,7 @@ use Rattle.std.specs.List.Sorted.{IsPermutation}
 use Rattle.std.specs.List.{swap}
 use Rattle.std.proofs.lemmas.List.{length-set, get_or-set_same, get_or-set_other, get_or_default}
 use Rattle.std.proofs.lemmas.List.Sorted.{IsPermutation-keeps}
-use Rattle.table.proofs.Sums.{same}
+use Rattle.std.proofs.lemmas.Bool.{cases_eq}
 
 module _ {X : Type 0} (key : X → ℕ) where
   abbrev pub Different : List X → Type 0
@@ -19,7 +19,7 @@ module _ {X : Type 0} (key : X → ℕ) where
   was : (xs : List X) (i j a : ℕ) (x : X) → i < length xs → j < length xs → a < length xs
       → (b : ℕ) × Was i j a b × (b < length xs) × (get_or (swap xs i j) a x ≡ get_or xs b x)
   was [] i j a x hi hj ha = absurd (omega arith)
-  was (d ∷ ys) i j a x hi hj ha = elim (same a j) [
+  was (d ∷ ys) i j a x hi hj ha = elim (cases_eq a j) [
     | inl e ↦ (
       i,
       at_j e refl,
@@ -28,7 +28,7 @@ module _ {X : Type 0} (key : X → ℕ) where
           ∙ get_or-set_same (set (d ∷ ys) i (get_or (d ∷ ys) j d)) j (get_or (d ∷ ys) i d) x (omega (arith, length-set (d ∷ ys) i (get_or (d ∷ ys) j d)))
           ∙ get_or_default (d ∷ ys) i d x hi,
     )
-    | inr p ↦ elim (same a i) [
+    | inr p ↦ elim (cases_eq a i) [
       | inl e ↦ (
         j,
         at_i p e refl,

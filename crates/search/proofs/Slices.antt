@@ -1,6 +1,6 @@
 -- What the first rows of a table say, read from the table or from a slice of it.
-use Rattle.std.proofs.Common.{◌≡◌, ℕ, ◌-◌, ◌<◌, ◌≤◌, List, length, take, drop, ℤ, Some, None, Option, sym, ap, ◌∙◌, subst, arith}
-use Rattle.std.proofs.lemmas.List.Edits.{get_or-between, length-between}
+use Rattle.std.proofs.Common.{◌≡◌, ℕ, ◌<◌, ◌≤◌, List, length, take, ℤ, Some, None, Option, sym, ap, ◌∙◌, subst}
+use Rattle.std.proofs.lemmas.List.{get_or-take, length-take-le}
 use Rattle.order.specs.declared.records.Candidate.{Candidate}
 use Rattle.policy.specs.declared.front.Front.{Front}
 use Rattle.table.specs.Boxes.{FirstOfRank}
@@ -12,13 +12,13 @@ use Rattle.search.proofs.Firsts.{first_of_rank_same}
 
 -- the rows from 0 up to boxes
 abbrev pub rows : ℕ → List Row → List Row
-rows boxes table = take (boxes - 0) (drop 0 table)
+rows boxes table = take boxes table
 
 pub rows_length : (boxes : ℕ) (table : List Row) → boxes ≤ length table → length (rows boxes table) ≡ boxes
-rows_length boxes table h = length-between table 0 boxes h ∙ omega arith
+rows_length boxes table h = length-take-le boxes table h
 
 pub rows_at : (boxes : ℕ) (table : List Row) (j : ℕ) → j < boxes → row_at (rows boxes table) j ≡ row_at table j
-rows_at boxes table j h = get_or-between table 0 boxes j no_row (omega arith) ∙ ap (row_at table) (omega arith)
+rows_at boxes table j h = get_or-take boxes table j no_row h
 
 -- two tables with the same rows below boxes have the same front
 module _ (n finest boxes : ℕ) (old new : List Row) (same : (j : ℕ) → j < boxes → row_at new j ≡ row_at old j) where

@@ -1,5 +1,6 @@
 -- Answering and closing keep what holds.
 use Rattle.std.proofs.Common.{◌≡◌, ℕ, ◌+◌, ◌-◌, ◌<◌, Bool, cond, ◌≢◌, List, [], length, Some, None, sym, refl, ap, ◌∙◌, subst, inl, inr, arith, length-set, get_or-set_other, get_or-set_same}
+use Rattle.std.proofs.lemmas.Bool.{cases_eq, cases_lt}
 use mathlib.Core.Path.{subst₃}
 use Rattle.order.specs.Answers.{allowed}
 use Rattle.order.specs.declared.answer.Answer.{Answer}
@@ -8,7 +9,7 @@ use Rattle.table.specs.Entries.{shown_by}
 use Rattle.table.specs.Rows.{IsMiddle, LiesIn, row_at}
 use Rattle.table.specs.declared.rows.Row.{Row}
 use Rattle.table.specs.declared.shape.Shape.{Shape}
-use Rattle.table.proofs.Sums.{less, same, yes_is}
+use Rattle.table.proofs.Sums.{yes_is}
 use Rattle.search.specs.Points.{CellOf, Located, point_at}
 use Rattle.search.specs.Runs.{Book, answered_book, closed_book, noted}
 use Rattle.search.specs.declared.states.Rest.{Rest}
@@ -61,14 +62,14 @@ module _ (round : Round) (table : List Row) (book : Book) (p : ℕ) (a : Answer)
 
   cell_same : (i : ℕ) → (noted kept i).cell ≡ (noted book i).cell
   cell_same i =
-      elim (same i (round.boxes + p)) [
+      elim (cases_eq i (round.boxes + p)) [
         | inl e ↦ ap (λ x. (noted kept x).cell) e ∙ ap (λ x. x.cell) noted_here ∙ sym (ap (λ x. (noted book x).cell) e)
         | inr x ↦ ap (λ y. y.cell) (noted_other i x)
       ]
 
   shown : (i : ℕ) → i < length kept.cells → shown_by (row_at after i).entry ≡ (noted kept i).answer
   shown i l =
-      elim (same i (round.boxes + p)) [
+      elim (cases_eq i (round.boxes + p)) [
         | inl e ↦ ap (λ x. shown_by (row_at after x).entry) e ∙ ap shown_by (row_here round table p a after k)
             ∙ ap (λ (x : Bool). cond x (Some a) None) (yes_is (allowed a) k.allowed_answer)
             ∙ sym (ap (λ x. (noted kept x).answer) e ∙ ap (λ x. x.answer) noted_here)
@@ -106,7 +107,7 @@ module _ (round : Round) (table : List Row) (book : Book) (rest : Rest) (after :
 
   middles : (i : ℕ) → i < round.boxes + round.points → IsMiddle round.shape.n (row_at after i) (noted book i).cell
   middles i l =
-      elim (less i round.boxes) [
+      elim (cases_lt i round.boxes) [
         | inl a ↦ middle_old round table after k.own k.cut i a (noted book i).cell (h.base.middles i a)
         | inr a ↦
             let p : ℕ = i - round.boxes in

@@ -1,9 +1,10 @@
 -- The thirds of an interval: the numbers that lie in each, and their middles.
 use Rattle.std.proofs.Common.{◌≡◌, ℕ, zero, suc, ◌+◌, ◌-◌, ◌*◌, ◌^◌, ◌<◌, ◌≤◌, Bool, true, false, cond, T, ltb, leb, ◌≢◌, ◌⊎◌, sym, refl, ◌∙◌, subst, inl, inr, arith, le→leb, ltb→lt, lt→ltb, leb→le}
 use native.Mathlib.Nat.{pow-succ'}
+use Rattle.std.proofs.lemmas.Bool.{cases_lt}
 use Rattle.grid.specs.Grid.{cells_at, middle_of}
 use Rattle.grid.proofs.Lengths.{cells_at_third}
-use Rattle.table.proofs.Sums.{less, no_is, yes_is}
+use Rattle.table.proofs.Sums.{no_is, yes_is}
 use Rattle.search.specs.Points.{Moved, Side, Third, high, low, lower, middle, outer, start_of, third_at, upper}
 
 -- a power of three is odd
@@ -37,9 +38,9 @@ wider upper f t x h i = record { from = omega arith; to = omega (arith, cells_at
 -- x lies in the middle third, or in an outer one
 which : (f t x : ℕ) → t < 19 → In f t x → In (start_of middle f t) (t + 1) x ⊎ ((s : Side) × In (start_of (outer s) f t) (t + 1) x)
 which f t x h i =
-    elim (less x (f + third_at t)) [
+    elim (cases_lt x (f + third_at t)) [
       | inl a ↦ inr (low, record { from = i.from; to = omega arith })
-      | inr a ↦ elim (less x (f + 2 * third_at t)) [
+      | inr a ↦ elim (cases_lt x (f + 2 * third_at t)) [
         | inl b ↦ inl (record { from = a; to = omega arith })
         | inr b ↦ inr (high, record { from = b; to = omega (arith, cells_at_third t h) })
       ]

@@ -1,15 +1,13 @@
 -- The chosen ranks in turn, the lowest first: each is popped from a set, and its taken box is cut.
 use Rattle.std.proofs.Common.{◌≡◌, ℕ, ◌+◌, ◌-◌, ◌*◌, ◌%◌, ◌<◌, ◌≤◌, false, T, List, Some, None, Option, sym, refl, ap, ◌∙◌, subst, inl, inr, arith}
-use Rattle.std.proofs.lemmas.Bool.{true≢false}
+use Rattle.std.proofs.lemmas.Bool.{true≢false, cases_eq, cases_lt}
 use Rattle.order.specs.declared.records.Candidate.{Candidate}
 use Rattle.ranks.proofs.Changes.{without_here, without_other}
-use Rattle.ranks.specs.Ranks.{Lowest, none, ranks, without}
-use Rattle.ranks.specs.declared.rank_set.RankSet.{RankSet}
+use Rattle.ranks.specs.Ranks.{Lowest, Ranks, none, ranks, without}
 use Rattle.table.specs.declared.rows.Row.{Row}
 use Rattle.table.specs.Rows.{row_at}
 use Rattle.table.specs.Entries.{answer_of}
 use Rattle.table.specs.Boxes.{FirstOfRank, First}
-use Rattle.table.proofs.Sums.{same, less}
 use Rattle.search.specs.declared.states.Round.{Round}
 use Rattle.search.specs.Calls.{OwnRound, CutAll}
 use Rattle.search.specs.Cutting.{Taking, CutBox}
@@ -17,20 +15,20 @@ use Rattle.search.proofs.Firsts.{shown_is}
 use Rattle.search.proofs.CutRanks.{CutRanks, below, below_next, cut_end, cut_one, cut_skips, cut_start, room, taking}
 
 -- the chosen ranks below some rank are done, the others are left in the set, and the next points have the rows from next on
-pub record Turns (round : Round) (table : List Row) (set : RankSet) (next : ℕ) (after : List Row) : Type 0 where
+pub record Turns (round : Round) (table : List Row) (set : Ranks) (next : ℕ) (after : List Row) : Type 0 where
   pub to : ℕ
   pub most : to ≤ 114
-  pub gone : (k : ℕ) → k < to → ranks set k ≡ false
-  pub left : (k : ℕ) → to ≤ k → ranks set k ≡ ranks round.chosen k
+  pub gone : (k : ℕ) → k < to → set k ≡ false
+  pub left : (k : ℕ) → to ≤ k → set k ≡ ranks round.chosen k
   pub cut : CutRanks round table to after
   pub place : next ≡ round.boxes + below round to
 
 module _ (round : Round) (table : List Row) (own : OwnRound round table) where
-  pub turns_start : Turns round table round.chosen round.boxes table
+  pub turns_start : Turns round table (ranks round.chosen) round.boxes table
   turns_start = record { to = 0; most = omega arith; gone = λ k h. absurd (omega arith); left = λ k h. refl; cut = cut_start round table own; place = omega arith }
 
-  module _ (set : RankSet) (next : ℕ) (mid : List Row) (t : Turns round table set next mid) where
-    reach : (r : ℕ) → t.to ≤ r → ((k : ℕ) → k < r → ranks set k ≡ false)
+  module _ (set : Ranks) (next : ℕ) (mid : List Row) (t : Turns round table set next mid) where
+    reach : (r : ℕ) → t.to ≤ r → ((k : ℕ) → k < r → set k ≡ false)
         → CutRanks round table r mid × (next ≡ round.boxes + below round r)
     reach r h out =
         let e : t.to + (r - t.to) ≡ r = omega arith in
@@ -39,13 +37,13 @@ module _ (round : Round) (table : List Row) (own : OwnRound round table) where
           t.place ∙ ap (λ (m : ℕ). round.boxes + m) (sym c.1 ∙ ap (below round) e),
         )
 
-    pub turns_end : ranks set ≡ none → CutAll round table mid
+    pub turns_end : set ≡ none → CutAll round table mid
     turns_end e = cut_end round table own 114 mid refl (reach 114 t.most (λ k _. ap (λ p. p k) e)).0
 
     -- the lowest rank that is left is popped
-    module _ (r : ℕ) (low : Lowest (ranks set) r) where
+    module _ (r : ℕ) (low : Lowest set r) where
       from : t.to ≤ r
-      from = elim (less r t.to) [ inl h ↦ absurd (true≢false (sym low.has ∙ t.gone r h)) | inr h ↦ h ]
+      from = elim (cases_lt r t.to) [ inl h ↦ absurd (true≢false (sym low.has ∙ t.gone r h)) | inr h ↦ h ]
 
       popped_in : T (ranks round.chosen r)
       popped_in = subst T (sym (sym (t.left r from) ∙ low.has)) tt
@@ -64,16 +62,16 @@ module _ (round : Round) (table : List Row) (own : OwnRound round table) where
         pub popped_room : next + 2 * (round.shape.n - r % round.shape.n) ≤ round.boxes + round.points
         popped_room = room round table own r j popped_in f mid next popped_cut popped_place
 
-        pub turns_more : (rest : RankSet) (after : List Row) → r < 114 → ranks rest ≡ without (ranks set) r → CutBox round.shape.n mid j next after
+        pub turns_more : (rest : Ranks) (after : List Row) → r < 114 → rest ≡ without set r → CutBox round.shape.n mid j next after
             → Turns round table rest (next + 2 * (round.shape.n - r % round.shape.n)) after
         turns_more rest after h is b = record {
           to = r + 1;
           most = omega arith;
-          gone = λ k l. ap (λ p. p k) is ∙ elim (same k r) [
-            | inl e ↦ ap (without (ranks set) r) e ∙ without_here (ranks set) r
-            | inr x ↦ without_other (ranks set) r k x ∙ low.least k (omega arith)
+          gone = λ k l. ap (λ p. p k) is ∙ elim (cases_eq k r) [
+            | inl e ↦ ap (without set r) e ∙ without_here set r
+            | inr x ↦ without_other set r k x ∙ low.least k (omega arith)
           ];
-          left = λ k l. ap (λ p. p k) is ∙ without_other (ranks set) r k (omega arith) ∙ t.left k (omega (arith, from));
+          left = λ k l. ap (λ p. p k) is ∙ without_other set r k (omega arith) ∙ t.left k (omega (arith, from));
           cut = cut_one round table own r j popped_in f mid next popped_cut popped_place after b;
           place = omega (arith, popped_place, below_next round table own r popped_in);
         }

@@ -2,8 +2,9 @@
 use Rattle.std.proofs.Common.{◌≡◌, ℕ, zero, suc, ◌+◌, ◌-◌, ◌*◌, ◌/◌, ◌%◌, ◌^◌, ◌<◌, ◌≤◌, false, eqb, sym, ap, ◌∙◌, inl, inr, add-zero, add-suc, mul-le-mul_right, mod-lt, mul_assoc, suc-mul, mul_comm, add-mul, one-mul, div-add-mod', zero-mul, arith, eqb→eq, pow-add}
 use native.Mathlib.Nat.{mul-mod_left, pow-succ', sub-zero, zero-mod}
 use lib.Arith.{digits_mod}
+use Rattle.std.proofs.lemmas.Bool.{cases_lt}
 use Rattle.table.specs.Sums.{bit, sum}
-use Rattle.table.proofs.Sums.{less, no_is, sum_cong, sum_first, sum_times}
+use Rattle.table.proofs.Sums.{no_is, sum_cong, sum_first, sum_times}
 use Rattle.search.specs.Runs.{rounds_for}
 
 -- the rounds that a box of n directions can take until its rank is s higher: a cut makes three boxes of one,
@@ -50,7 +51,7 @@ spread n k r a h =
     let t : ℕ = r / n in
     let e : t * n + r % n ≡ r = div-add-mod' r n in
     let l : r % n < n = mod-lt r a in
-    let below : t < k = elim (less t k) [ inl x ↦ x | inr x ↦ absurd (omega (arith, mul-le-mul_right n x)) ] in
+    let below : t < k = elim (cases_lt t k) [ inl x ↦ x | inr x ↦ absurd (omega (arith, mul-le-mul_right n x)) ] in
     let u : ℕ = k - suc t in
     let m : ℕ = n - suc (r % n) in
     let whole : k * n ≡ u * n + (t * n + n) =

@@ -122,7 +122,7 @@ FindsWaiting round table out =
 
 -- the row of a point with an answer; its box remains
 abbrev pub with_answer : Row → Answer → Row
-with_answer row a = record { firsts = row.firsts; levels = row.levels; entry = Answered a }
+with_answer row a = record { spans = row.spans; entry = Answered a }
 
 abbrev pub AnswersIn : Round → List Row → ℕ → Answer → Result (Unit {0}) Refusal → List Row → Type 0
 AnswersIn round table p a out after =

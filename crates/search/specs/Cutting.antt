@@ -3,12 +3,12 @@ use Rattle.std.specs.Prelude.{◌≡◌, ℕ, ◌+◌, ◌-◌, ◌*◌, ◌/◌
 use Rattle.grid.specs.Grid.{IsInterval}
 use Rattle.grid.specs.declared.interval.Interval.{Interval}
 use Rattle.grid.specs.declared.interval.cut.Thirds.{Thirds}
-use Rattle.order.specs.Answers.{Numbered, earlier_answer}
-use Rattle.order.specs.Records.{direction_before, direction_key}
+use Rattle.order.specs.Answers.{earlier_answer}
+use Rattle.order.specs.Records.{direction_before}
 use Rattle.order.specs.declared.answer.Answer.TheVariants.{Reading}
 use Rattle.table.specs.Boxes.{Long}
 use Rattle.table.specs.Entries.{answer_of}
-use Rattle.table.specs.Rows.{first_of, level_of, rank, row_at}
+use Rattle.table.specs.Rows.{first_of, level_of, rank, row_at, span_of}
 use Rattle.table.specs.declared.rows.Entry.{Entry}
 use Rattle.table.specs.declared.rows.Row.{Row}
 use Rattle.search.specs.Points.{longs_below, Given, IsThird, Kept, Same, Side, Six, Third, high, low, lower, middle, outer, start_of, upper}
@@ -33,12 +33,9 @@ pub record ThirdsIn (row : Row) (d : ℕ) (thirds : Thirds) : Type 0 where
 
 -- the row with an interval for its side d, and with an entry
 abbrev pub with_side : Row → ℕ → Interval → Entry → Row
-with_side row d i e = record { firsts = slice_set row.firsts d i.first; levels = slice_set row.levels d i.level; entry = e }
+with_side row d i e = record { spans = slice_set row.spans d (span_of i); entry = e }
 
 -- long sides go by their directions
-abbrev pub side_key : LongSide → Numbered
-side_key side = direction_key side.direction
-
 abbrev pub side_before : LongSide → LongSide → Bool
 side_before a b = direction_before a.direction b.direction
 

@@ -1,5 +1,5 @@
 -- The points of a round, their cells, and what closing makes of the taken boxes.
-use Rattle.std.specs.Prelude.{◌≡◌, ℕ, ◌+◌, ◌*◌, ◌/◌, ◌<◌, Bool, true, false, T, ◌≢◌, List, length, ◌==◌, slice_index}
+use Rattle.std.specs.Prelude.{◌≡◌, ℕ, ◌+◌, ◌*◌, ◌/◌, ◌<◌, Bool, T, ◌≢◌, List, length, ◌==◌, slice_index}
 use Rattle.grid.specs.Grid.{cells_at, middle_of}
 use Rattle.order.specs.Answers.{earlier_answer}
 use Rattle.order.specs.declared.answer.Answer.{Answer}
@@ -10,11 +10,9 @@ use Rattle.table.specs.Rows.{first_of, level_of, rank, row_at}
 use Rattle.table.specs.Sums.{bit, sum}
 use Rattle.table.specs.declared.rows.Row.{Row}
 use Rattle.search.specs.Counts.{points_below}
+pub use Rattle.search.specs.declared.side.Side.{Side}
+pub use Rattle.search.specs.declared.side.Side.TheVariants.{Low as low, High as high}
 use Rattle.search.specs.declared.states.Round.{Round}
-
--- a point lies a third of the side below or above the middle of its box
-pub data Side : Type 0 where
-  low high : Side
 
 -- direction d of a box is a long side, as a test
 abbrev pub is_long : ℕ → Row → ℕ → Bool
@@ -49,11 +47,6 @@ third_at t = cells_at (t + 1)
 abbrev pub Moved : Side → ℕ → ℕ → ℕ → Type 0
 Moved low first t x = x + third_at t ≡ middle_of first t
 Moved high first t x = x ≡ middle_of first t + third_at t
-
--- low or high
-abbrev pub pick : Bool → Side
-pick true = high
-pick false = low
 
 -- x is the cell in direction e of the point of the long side d
 pub record Coordinate (row : Row) (d : ℕ) (s : Side) (e x : ℕ) : Type 0 where
@@ -107,10 +100,9 @@ pub record Same (old new : Row) (d : ℕ) : Type 0 where
   pub first : first_of new d ≡ first_of old d
   pub level : level_of new d ≡ level_of old d
 
--- a row has six first cells and six levels
-pub record Six (row : Row) : Type 0 where
-  pub firsts : length row.firsts ≡ 6
-  pub levels : length row.levels ≡ 6
+-- a row has six spans
+abbrev pub Six : Row → Type 0
+Six row = length row.spans ≡ 6
 
 -- what the taken row keeps: the middle third of each long side
 pub record Kept (n : ℕ) (old new : Row) : Type 0 where

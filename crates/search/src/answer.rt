@@ -4,6 +4,7 @@ ghost use Rattle.order.specs.Answers.{allowed};
 ghost use Rattle.search.specs.Calls.{Answers, AnswersIn, FindsWaiting, OwnRound, WaitingPoint, Waits, with_answer};
 ghost use Rattle.table.specs.Rows.{row_at};
 
+use crate::look::Looked;
 use crate::states::Round;
 use order::answer::Answer;
 use refusal::Refusal;
@@ -17,20 +18,19 @@ pub(crate) fn note(row: usize, answer: Answer, table: &mut [Row])
     table[row].entry = Entry::Answered(answer);
 }
 
-impl Round {
-    // As `waiting`, where the table is known to be the round's own.
-    pub(crate) fn waiting_in(&self, table: &[Row]) -> Option<usize>
-        requires { OwnRound self.now table.now }
-        ensures { WaitingPoint self.now table.now result }
+impl Looked<'_> {
+    // Some point that waits, or none where none waits.
+    pub(crate) fn waiting(&self) -> Option<usize>
+        ensures { WaitingPoint self.now.round.now self.now.table.now result }
     {
-        for p in 0..self.points {
-            if table[self.boxes + p].entry.waits() {
-                return Some(p);
-            }
-        }
-        None
+        let round = self.round;
+        self.table[round.boxes..round.boxes + round.points]
+            .iter()
+            .position(|row| row.entry.waits())
     }
+}
 
+impl Round {
     // As `answer`, where the table is known to be the round's own and the answer to be allowed.
     pub(crate) fn answer_in(
         &self,
@@ -57,10 +57,7 @@ impl Round {
     pub fn waiting(&self, table: &[Row]) -> Result<Option<usize>, Refusal>
         ensures { FindsWaiting self.now table.now result }
     {
-        if !self.owns(table) {
-            return Err(Refusal::NotOwnTable);
-        }
-        Ok(self.waiting_in(table))
+        Ok(self.look(table)?.waiting())
     }
 
     // Replaces the waiting mark of a point by an answer.
@@ -70,9 +67,7 @@ impl Round {
         if !answer.is_allowed() {
             return Err(Refusal::ReadingOutOfRange);
         }
-        if !self.owns(table) {
-            return Err(Refusal::NotOwnTable);
-        }
+        let _ = self.look(table)?;
         self.answer_in(point, answer, table)
     }
 }

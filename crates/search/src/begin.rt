@@ -32,7 +32,7 @@ pub fn begin(n: u8, finest: u8, table: &mut [Row], answer: Answer) -> Result<Res
     ensures runs { elim result [ Ok rest ↦ EveryRun rest table.new answer | Err _ ↦ Unit {0} ] }
 {
     let shape = Shape::new(n, finest)?;
-    if table.len() == 0 {
+    if table.is_empty() {
         return Err(Refusal::NoRow);
     }
     if !answer.is_allowed() {

@@ -13,7 +13,7 @@ impl Rest {
         requires { OwnRest self.now table.now }
         ensures { BestOf self.now table.now result }
     {
-        let boxes = &table[0..self.boxes];
+        let boxes = &table[..self.boxes];
         let first = least(boxes)?;
         match boxes[first].entry.answer() {
             Answer::Reading(x) => Some((first, x)),

@@ -1,23 +1,32 @@
 // Cutting one taken box.
 ghost use Rattle.std.specs.Prelude.{◌≡◌, ◌<◌, length, slice_set};
-ghost use Rattle.table.specs.Rows.{row_at};
+ghost use Rattle.grid.specs.Grid.{IsInterval};
+ghost use Rattle.table.specs.Rows.{first_of, level_of, row_at};
 ghost use Rattle.search.specs.Points.{Six};
 ghost use Rattle.search.specs.Cutting.{CutAlong, CutBox, Cuttable, Sides, Taking, ThirdsIn, with_side};
 
-use crate::sides::{LongSide, cut_order};
+use crate::sides::{LongSide, TakenBox};
 use grid::interval::Interval;
 use grid::interval::cut::Thirds;
-use table::rows::{Entry, Row};
+use table::rows::{Entry, Row, Span};
+
+// The interval of a box in a direction.
+pub(crate) fn interval_in(row: &Row, d: usize) -> Interval
+    requires { (d < 6) × (IsInterval (first_of row.now d) (level_of row.now d)) }
+    ensures { (result.first ≡ first_of row.now d) × (result.level ≡ level_of row.now d) }
+{
+    match row.spans[d].interval() {
+        Some(interval) => interval,
+        None => unreachable(),
+    }
+}
 
 // The thirds of side `d` of a row.
 fn thirds_of(row: &Row, d: usize) -> Thirds
     requires { Cuttable row.now d }
     ensures { ThirdsIn row.now d result }
 {
-    match Interval::new(row.firsts[d], row.levels[d]) {
-        Some(side) => side.cut(),
-        None => unreachable(),
-    }
+    interval_in(row, d).cut()
 }
 
 // The row with an interval for its side `d`, and with an entry.
@@ -26,8 +35,7 @@ fn with_side(row: Row, d: usize, side: Interval, entry: Entry) -> Row
     ensures { result ≡ with_side row d side entry }
 {
     let mut part = row;
-    part.firsts[d] = side.first();
-    part.levels[d] = side.level();
+    part.spans[d] = Span::from(side);
     part.entry = entry;
     part
 }
@@ -40,7 +48,7 @@ fn give(table: &mut [Row], k: usize, from: Row, d: usize, side: Interval)
     table[k] = with_side(from, d, side, table[k].entry);
 }
 
-// Row `j` becomes what is left of its box: like every row it has six first cells and six levels.
+// Row `j` becomes what is left of its box: like every row it has six spans.
 fn keep(table: &mut [Row], j: usize, left: Row)
     requires { j < length table.old }
     ensures written { table.new ≡ slice_set table.old j left }
@@ -55,9 +63,9 @@ fn cut_along(table: &mut [Row], j: usize, sides: &[LongSide])
     ensures { CutAlong table.old j sides.now table.new }
 {
     let mut left = table[j];
-    for i in 0..sides.len() {
-        let row = sides[i].row;
-        let d = sides[i].direction.number;
+    for side in sides {
+        let row = side.row;
+        let d = side.direction.number;
         let thirds = thirds_of(&left, d);
         give(table, row, left, d, thirds.low);
         give(table, row + 1, left, d, thirds.high);
@@ -66,11 +74,13 @@ fn cut_along(table: &mut [Row], j: usize, sides: &[LongSide])
     keep(table, j, left);
 }
 
-// Cuts row `j`, a box of rank `r`, along its long sides.
-pub(crate) fn cut_box(table: &mut [Row], j: usize, n: usize, r: usize, base: usize)
-    requires { Taking n r table.old j base }
-    ensures { CutBox n table.old j base table.new }
-{
-    let sides = cut_order(table, j, n, r, base);
-    cut_along(table, j, &sides[0..n - r % n]);
+impl TakenBox {
+    // Cuts it along its long sides.
+    pub fn cut(&self, table: &mut [Row])
+        requires { Taking self.now.n self.now.rank table.old self.now.row self.now.base }
+        ensures { CutBox self.now.n table.old self.now.row self.now.base table.new }
+    {
+        let sides = self.cut_order(table);
+        cut_along(table, self.row, &sides[..self.n - self.rank % self.n]);
+    }
 }

@@ -11,6 +11,7 @@ mod look;
 pub mod once;
 mod open;
 pub mod replay;
+pub mod side;
 mod sides;
 pub mod states;
 pub mod worked;

@@ -7,12 +7,14 @@ ghost use Rattle.table.specs.Rows.{first_of, level_of, rank};
 ghost use Rattle.table.specs.Sums.{bit, sum};
 ghost use Rattle.search.specs.Calls.{Locates, LocatesIn, OwnRound};
 ghost use Rattle.search.specs.Counts.{points_below, points_of};
-ghost use Rattle.search.specs.Points.{Coordinate, Moved, is_long, pick};
+ghost use Rattle.search.specs.Points.{Coordinate, Moved, high, is_long, low};
 
+use crate::cutting::interval_in;
+use crate::look::Looked;
+use crate::side::Side;
 use crate::states::Round;
 use grid::interval::Interval;
-use order::records::Candidate;
-use ranks::rank_set::{RANKS, RankSet};
+use ranks::rank_set::RankSet;
 use refusal::Refusal;
 use table::rows::Row;
 
@@ -23,9 +25,8 @@ fn rank_at(n: usize, chosen: RankSet, point: usize) -> (usize, usize)
     ensures number { point ≡ points_below n (ranks chosen) result.0 + result.1 }
     ensures among { result.1 < 2 * (n - result.0 % n) }
 {
-    let mut rest = chosen;
     let mut start = 0;
-    while let Some(rank) = rest.pop_first() {
+    for rank in chosen.members() {
         let points = 2 * (n - rank % n);
         if point - start < points {
             return (rank, point - start);
@@ -41,8 +42,8 @@ fn long_side(row: &Row, n: usize, level: usize, number: usize) -> usize
     ensures { Long n row.now result × (number ≡ sum result (λ e. bit (is_long n row.now e))) }
 {
     let mut seen = 0;
-    for d in 0..n {
-        if row.levels[d] as usize == level {
+    for (d, span) in row.spans[..n].iter().enumerate() {
+        if usize::from(span.level) == level {
             if seen == number {
                 return d;
             }
@@ -52,109 +53,87 @@ fn long_side(row: &Row, n: usize, level: usize, number: usize) -> usize
     unreachable()
 }
 
-// The interval of a box in a direction.
-fn interval_in(row: &Row, d: usize) -> Interval
-    requires { (d < 6) × (IsInterval (first_of row.now d) (level_of row.now d)) }
-    ensures { (result.first ≡ first_of row.now d) × (result.level ≡ level_of row.now d) }
+// Low for an even number of a point among those of its rank, high for an odd one.
+fn side_of(number: usize) -> Side
+    ensures low { result ≡ low → number % 2 ≡ 0 }
+    ensures high { result ≡ high → number % 2 ≡ 1 }
 {
-    match Interval::new(row.firsts[d], row.levels[d]) {
-        Some(interval) => interval,
-        None => unreachable(),
+    if number % 2 == 0 {
+        Side::Low
+    } else {
+        Side::High
     }
 }
 
 // The middle of an interval, moved down or up by a third of its length: the middle of an outer third.
-fn moved(interval: Interval, high: bool) -> u32
+fn moved(interval: Interval, side: Side) -> u32
     requires { interval.level < 19 }
-    ensures { Moved (pick high) interval.first interval.level result }
+    ensures { Moved side interval.first interval.level result }
 {
     let thirds = interval.cut();
-    if high {
-        thirds.high.middle()
-    } else {
-        thirds.low.middle()
+    match side {
+        Side::Low => thirds.low.middle(),
+        Side::High => thirds.high.middle(),
     }
 }
 
 // A point's cell in direction e, where the point is of the long side d, low or high.
-fn coordinate(row: &Row, d: usize, high: bool, e: usize) -> u32
+fn coordinate(row: &Row, d: usize, side: Side, e: usize) -> u32
     requires { (e < 6) × ((IsInterval (first_of row.now e) (level_of row.now e)) × (level_of row.now d < 19)) }
-    ensures { Coordinate row.now d (pick high) e result }
+    ensures { Coordinate row.now d side e result }
 {
     let interval = interval_in(row, e);
     if e == d {
-        moved(interval, high)
+        moved(interval, side)
     } else {
         interval.middle()
     }
 }
 
 // Writes the n cells of a point of the long side d, low or high.
-fn write_cell(row: &Row, n: usize, d: usize, high: bool, cells: &mut [u32])
+fn write_cell(row: &Row, n: usize, d: usize, side: Side, cells: &mut [u32])
     requires intervals { (e : ℕ) → e < n → IsInterval (first_of row.now e) (level_of row.now e) }
     requires side { level_of row.now d < 19 }
     requires room { (n ≤ 6) × (n ≤ length cells.old) }
-    ensures cell { (e : ℕ) → e < n → Coordinate row.now d (pick high) e (slice_index cells.new e) }
+    ensures cell { (e : ℕ) → e < n → Coordinate row.now d side e (slice_index cells.new e) }
     ensures same { length cells.new ≡ length cells.old }
     ensures after { (e : ℕ) → n ≤ e → slice_index cells.new e ≡ slice_index cells.old e }
 {
-    for e in 0..n {
-        cells[e] = coordinate(row, d, high, e);
+    for (e, cell) in cells[..n].iter_mut().enumerate() {
+        *cell = coordinate(row, d, side, e);
     }
 }
 
-impl Round {
-    // As `locate`, where the table is known to be the round's own, and the first boxes of its ranks are at hand.
-    pub(crate) fn locate_at(
-        &self,
-        point: usize,
-        table: &[Row],
-        firsts: &[Option<Candidate>; RANKS],
-        cells: &mut [u32],
-    ) -> Result<(), Refusal>
-        requires own { OwnRound self.now table.now }
-        requires found { (r : ℕ) → r < 114 → FirstOfRank self.now.shape.n self.now.shape.finest self.now.boxes table.now r (slice_index_or firsts.now r None) }
-        ensures { LocatesIn self.now table.now point cells.old result cells.new }
+impl Looked<'_> {
+    // Writes a point's n cells into a cell list, and nothing after them.
+    pub(crate) fn locate(&self, point: usize, cells: &mut [u32]) -> Result<(), Refusal>
+        ensures { LocatesIn self.now.round.now self.now.table.now point cells.old result cells.new }
     {
-        let n = self.shape.n as usize;
-        if point >= self.points {
+        let round = self.round;
+        let n = round.shape.n as usize;
+        if point >= round.points {
             return Err(Refusal::NoSuchPoint);
         }
         if cells.len() < n {
             return Err(Refusal::ShortCellList);
         }
-        let (rank, number) = rank_at(n, self.chosen, point);
-        let taken = match firsts[rank] {
+        let (rank, number) = rank_at(n, round.chosen, point);
+        let taken = match self.firsts[rank] {
             Some(first) => first.row,
             None => unreachable(),
         };
-        let row = table[taken];
+        let row = self.table[taken];
         let d = long_side(&row, n, rank / n, number / 2);
-        write_cell(&row, n, d, number % 2 == 1, cells);
+        write_cell(&row, n, d, side_of(number), cells);
         Ok(())
     }
+}
 
-    // As `locate`, where the table is known to be the round's own.
-    pub(crate) fn locate_in(
-        &self,
-        point: usize,
-        table: &[Row],
-        cells: &mut [u32],
-    ) -> Result<(), Refusal>
-        requires { OwnRound self.now table.now }
-        ensures { LocatesIn self.now table.now point cells.old result cells.new }
-    {
-        let firsts = self.shape.firsts(&table[0..self.boxes]);
-        self.locate_at(point, table, &firsts, cells)
-    }
-
+impl Round {
     // Writes a point's n cells into a cell list, and nothing after them.
     pub fn locate(&self, point: usize, table: &[Row], cells: &mut [u32]) -> Result<(), Refusal>
         ensures { Locates self.now table.now point cells.old result cells.new }
     {
-        if !self.owns(table) {
-            return Err(Refusal::NotOwnTable);
-        }
-        self.locate_in(point, table, cells)
+        self.look(table)?.locate(point, cells)
     }
 }

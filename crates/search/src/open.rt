@@ -21,9 +21,8 @@ fn points_of(shape: &Shape, chosen: RankSet) -> usize
     ensures few { result ≤ 1368 }
 {
     let n = shape.n as usize;
-    let mut rest = chosen;
     let mut points = 0;
-    while let Some(rank) = rest.pop_first() {
+    for rank in chosen.members() {
         points += 2 * (n - rank % n);
     }
     points
@@ -41,9 +40,7 @@ fn clear(table: &mut [Row], low: usize, high: usize)
     requires { (low ≤ high) × (high ≤ length table.old) }
     ensures { Cleared low high table.old table.new }
 {
-    for j in low..high {
-        table[j] = Row::whole(Entry::Waiting);
-    }
+    table[low..high].fill(Row::whole(Entry::Waiting));
 }
 
 impl Rest {
@@ -56,7 +53,7 @@ impl Rest {
         requires { OwnRest self table.old }
         ensures { OpensIn (P.Policy.chosen policy.now) self table.old result table.new }
     {
-        let front = self.shape.front_of(&table[0..self.boxes]);
+        let front = self.shape.front_of(&table[..self.boxes]);
         let chosen = policy.choose(&front);
         let points = points_of(&self.shape, chosen);
         if points == 0 {

@@ -1,7 +1,6 @@
 // The long sides of a taken box, in the order of cutting.
 ghost use Rattle.std.specs.Prelude.{◌≡◌, ◌+◌, ◌-◌, ◌%◌, ◌<◌, length, take};
-ghost use Rattle.order.specs.Answers.{Numbered, numbered_before};
-ghost use Rattle.search.specs.Cutting.{Gathered, InCutOrder, Taking, side_key, with_row};
+ghost use Rattle.search.specs.Cutting.{Gathered, InCutOrder, Taking, with_row};
 ghost use Rattle.std.proofs.Common.{rules};
 
 use order::answer::Answer;
@@ -17,21 +16,24 @@ pub(crate) struct LongSide {
     pub row: usize,
 }
 
+// A taken box: the directions of its search, its row, its rank, and the row of its first point.
+#[derive(Clone, Copy)]
+pub(crate) struct TakenBox {
+    pub n: usize,
+    pub row: usize,
+    pub rank: usize,
+    pub base: usize,
+}
+
 impl Ordered for LongSide {
-    ghost Key = { Numbered };
+    type Key = (Answer, usize);
 
-    ghost key = { side_key };
-
-    ghost before = { numbered_before };
-
-    ghost irreflexive = { Prim.search rules };
-
-    ghost transitive = { Prim.search rules };
+    ghost key = { λ s. (s.direction.w, s.direction.number) };
 
     ghost total = { Prim.search rules };
 
-    fn precedes(&self, other: &LongSide) -> bool {
-        self.direction.precedes(&other.direction)
+    fn key(&self) -> (Answer, usize) {
+        self.direction.key()
     }
 }
 
@@ -48,42 +50,40 @@ fn side(table: &[Row], number: usize, row: usize) -> LongSide
     }
 }
 
-// The long sides of row `j`, a box of rank `r`, by rising direction; what stands past them is of no account.
-fn long_sides(table: &[Row], j: usize, n: usize, r: usize, base: usize) -> [LongSide; SIDES]
-    requires { Taking n r table.now j base }
-    ensures { Gathered n table.now j base result }
-{
-    let levels = table[j].levels;
-    let none = Direction {
-        w: Answer::NotFeasible,
-        number: 0,
-    };
-    let mut sides = [LongSide {
-        direction: none,
-        row: 0,
-    }; SIDES];
-    let mut count = 0;
-    for d in 0..n {
-        if levels[d] as usize == r / n {
-            sides[count] = side(table, d, base + 2 * count);
-            count += 1;
+impl TakenBox {
+    // Its long sides by rising direction; what stands past them is of no account.
+    fn long_sides(&self, table: &[Row]) -> [LongSide; SIDES]
+        requires { Taking self.now.n self.now.rank table.now self.now.row self.now.base }
+        ensures { Gathered self.now.n table.now self.now.row self.now.base result }
+    {
+        let spans = table[self.row].spans;
+        let level = self.rank / self.n;
+        let none = Direction {
+            w: Answer::NotFeasible,
+            number: 0,
+        };
+        let mut sides = [LongSide {
+            direction: none,
+            row: 0,
+        }; SIDES];
+        let mut count = 0;
+        // A slice of the spans would have to be shown long enough: a table's row does not say that it has six.
+        for d in 0..self.n {
+            if usize::from(spans[d].level) == level {
+                sides[count] = side(table, d, self.base + 2 * count);
+                count += 1;
+            }
         }
+        sides
     }
-    sides
-}
 
-// The long sides of row `j` in the order of cutting.
-pub(crate) fn cut_order(
-    table: &[Row],
-    j: usize,
-    n: usize,
-    r: usize,
-    base: usize,
-) -> [LongSide; SIDES]
-    requires { Taking n r table.now j base }
-    ensures { InCutOrder n table.now j base (take (n - r % n) result) }
-{
-    let mut sides = long_sides(table, j, n, r, base);
-    arrange(&mut sides[0..n - r % n]);
-    sides
+    // Its long sides in the order of cutting.
+    pub fn cut_order(&self, table: &[Row]) -> [LongSide; SIDES]
+        requires { Taking self.now.n self.now.rank table.now self.now.row self.now.base }
+        ensures { InCutOrder self.now.n table.now self.now.row self.now.base (take (self.now.n - self.now.rank % self.now.n) result) }
+    {
+        let mut sides = self.long_sides(table);
+        arrange(&mut sides[..self.n - self.rank % self.n]);
+        sides
+    }
 }

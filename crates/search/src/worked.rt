@@ -22,20 +22,10 @@ pub fn first_round<P: Policy>(
     ensures { FirstRound n finest result table.new }
 {
     let rest = begin(n, finest, table, middle)?;
-    let round = match rest.open(policy, table) {
-        Ok(round) => round,
-        Err(refused) => return Err(refused.0),
-    };
+    let round = rest.open(policy, table)?;
     for point in 0..round.points() {
-        let answer = if point < answers.len() {
-            answers[point]
-        } else {
-            Answer::NotFeasible
-        };
+        let answer = answers.get(point).copied().unwrap_or(Answer::NotFeasible);
         round.answer(point, answer, table)?;
     }
-    match round.close(table) {
-        Ok(rest) => Ok(rest),
-        Err(refused) => Err(refused.0),
-    }
+    Ok(round.close(table)?)
 }

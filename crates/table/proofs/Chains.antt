@@ -1,8 +1,8 @@
 -- A strict total order given by a test: the first of a set, and sums over the places in a set.
-use Rattle.std.proofs.Common.{◌≡◌, ℕ, zero, suc, ◌<◌, Bool, true, false, cond, ◌&&◌, T, eqb, ◌≢◌, ◌⊎◌, sym, refl, ap, ◌∙◌, subst, inl, inr, arith, eqb→eq}
-use lib.Dec.{eqb_refl}
+use Rattle.std.proofs.Common.{◌≡◌, ℕ, zero, suc, ◌<◌, Bool, false, cond, ◌&&◌, T, eqb, ◌≢◌, ◌⊎◌, sym, refl, ap, ◌∙◌, subst, inl, inr, arith}
+use Rattle.std.proofs.lemmas.Bool.{cases_eq, eq-eqb, ne_eqb}
 use Rattle.table.specs.Sums.{sum, bit}
-use Rattle.table.proofs.Sums.{test, yes_is, no_is, bit_yes, bit_no, both, both_left, both_right, same, sum_cong, sum_at, sum_none, sum_zero}
+use Rattle.table.proofs.Sums.{test, yes_is, no_is, bit_yes, bit_no, both, both_left, both_right, sum_cong, sum_at, sum_none, sum_zero}
 
 pub record Strict (b : ℕ → ℕ → Bool) : Type 0 where
   pub irrefl : (d : ℕ) → T (b d d) → ⊥
@@ -33,14 +33,14 @@ leader b s (suc n) L = next (leader b s n L) (test (L n))
         leads = λ e l t d. absurd (none e (omega arith) t);
       },
     )
-    next (inl none) (inr not-here) = inl (λ d l t. elim (same d n)
+    next (inl none) (inr not-here) = inl (λ d l t. elim (cases_eq d n)
         [ inl e ↦ not-here (subst (λ x. T (L x)) e t) | inr h ↦ none d (omega arith) t ])
     next (inr first) (inr not-here) = inr (
       first.0,
       record {
         within = omega (arith, first.1.within);
         holds = first.1.holds;
-        leads = λ e l t d. elim (same e n)
+        leads = λ e l t d. elim (cases_eq e n)
             [ inl h ↦ absurd (not-here (subst (λ x. T (L x)) h t)) | inr h ↦ first.1.leads e (omega arith) t d ];
       },
     )
@@ -50,7 +50,7 @@ leader b s (suc n) L = next (leader b s n L) (test (L n))
         record {
           within = omega (arith, first.1.within);
           holds = first.1.holds;
-          leads = λ e l t d. elim (same e n)
+          leads = λ e l t d. elim (cases_eq e n)
               [ inl h ↦ subst (λ x. T (b first.0 x)) (sym h) p | inr h ↦ first.1.leads e (omega arith) t d ];
         },
       )
@@ -59,7 +59,7 @@ leader b s (suc n) L = next (leader b s n L) (test (L n))
         record {
           within = omega arith;
           holds = here;
-          leads = λ e l t d. elim (same e first.0) [
+          leads = λ e l t d. elim (cases_eq e first.0) [
             | inl h ↦ subst (λ x. T (b n x)) (sym h) q
             | inr h ↦ s.trans n first.0 e q (first.1.leads e (omega arith) t h)
           ];
@@ -80,14 +80,10 @@ abbrev pub less_one : (ℕ → Bool) → ℕ → ℕ → Bool
 less_one L z d = cond (eqb d z) false (L d)
 
 less_one_other : (L : ℕ → Bool) (z d : ℕ) → d ≢ z → less_one L z d ≡ L d
-less_one_other L z d h = go (eqb d z) (no_is (eqb d z) (λ t. h (eqb→eq d z t)))
-  where
-    go : (x : Bool) → x ≡ false → cond x false (L d) ≡ L d
-    go true e = absurd (subst (λ x. T (cond x true false)) e tt)
-    go false e = refl
+less_one_other L z d h = ap (λ x. cond x false (L d)) (ne_eqb d z h)
 
 less_one_self : (L : ℕ → Bool) (z : ℕ) → less_one L z z ≡ false
-less_one_self L z = ap (λ x. cond x false (L z)) (yes_is (eqb z z) (eqb_refl z))
+less_one_self L z = ap (λ x. cond x false (L z)) (eq-eqb z z refl)
 
 -- with the last member z taken out
 module _ (b : ℕ → ℕ → Bool) (s : Strict b) (n m : ℕ) (L : ℕ → Bool) (f : ℕ → ℕ) (e : size n L ≡ suc m)
@@ -116,7 +112,7 @@ module _ (b : ℕ → ℕ → Bool) (s : Strict b) (n m : ℕ) (L : ℕ → Bool
   place_other : (d : ℕ) → d < n → d ≢ z → T (L d) → place b n L d ≡ place b n (less_one L z) d
   place_other d l h t =
       sum_cong n (λ e. bit (L e && b e d)) (λ e. bit (less_one L z e && b e d))
-      (λ e k. elim (same e z) [
+      (λ e k. elim (cases_eq e z) [
         | inl q ↦ bit_no (L e && b e d)
             (λ x. s.irrefl d (s.trans d z d (last.leads d l t h) (subst (λ y. T (b y d)) q (both_right (L e) (b e d) x))))
             ∙ sym (bit_no (less_one L z e && b e d)

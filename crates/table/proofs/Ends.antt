@@ -1,32 +1,21 @@
 -- The least and the greatest reading, one box more.
-use Rattle.std.proofs.Common.{◌≡◌, ℕ, ◌+◌, Bool, true, false, cond, ◌⊎◌, List, ℤ, ◌≤ℤ◌, Some, None, Option, sym, refl, ap, ◌∙◌, subst, inl, inr, ⊎_elim, arith}
+use Rattle.std.proofs.Common.{suc, [], ◌∷◌, length, get_or, ◌≡◌, ℕ, ◌+◌, cond, ◌⊎◌, List, ℤ, ◌≤ℤ◌, Some, None, Option, sym, ap, ◌∙◌, subst, inl, inr, ⊎_elim, arith}
 use borrow.Author.Differences.{ints}
 use lib.Signed.{lt_z}
-use Rattle.std.proofs.lemmas.Bool.{cases_lt}
+use Rattle.std.proofs.lemmas.Bool.{cases_lt, cond_both}
+use Rattle.std.specs.List.{fold}
 use Rattle.order.specs.declared.answer.Answer.{Answer}
 use Rattle.order.specs.declared.answer.Answer.TheVariants.{Reading, NotFeasible}
 use Rattle.table.specs.declared.rows.Row.{Row}
 use Rattle.table.specs.Entries.{shown_by}
-use Rattle.table.specs.Rows.{row_at}
+use Rattle.table.specs.Rows.{no_row, row_at}
 use Rattle.table.specs.Fronts.{Reads, ReadingsOf, widened}
 
-one_of : (P : ℤ → Type 0) (b : Bool) (x y : ℤ) → P x → P y → P (cond b x y)
-one_of P true x y p q = p
-one_of P false x y p q = q
-
 less_low : (x y : ℤ) → (cond (lt_z x y) x y ≤ℤ x) × (cond (lt_z x y) x y ≤ℤ y)
-less_low x y = go (lt_z x y) refl
-  where
-    go : (b : Bool) → lt_z x y ≡ b → (cond b x y ≤ℤ x) × (cond b x y ≤ℤ y)
-    go true e = (omega (arith, ints), omega (arith, ints))
-    go false e = (omega (arith, ints), omega (arith, ints))
+less_low x y = cond_both (lt_z x y) x y (λ z. (z ≤ℤ x) × (z ≤ℤ y)) (λ e. (omega (arith, ints), omega (arith, ints))) (λ e. (omega (arith, ints), omega (arith, ints)))
 
 more_high : (x y : ℤ) → (x ≤ℤ cond (lt_z y x) x y) × (y ≤ℤ cond (lt_z y x) x y)
-more_high x y = go (lt_z y x) refl
-  where
-    go : (b : Bool) → lt_z y x ≡ b → (x ≤ℤ cond b x y) × (y ≤ℤ cond b x y)
-    go true e = (omega (arith, ints), omega (arith, ints))
-    go false e = (omega (arith, ints), omega (arith, ints))
+more_high x y = cond_both (lt_z y x) x y (λ z. (x ≤ℤ z) × (y ≤ℤ z)) (λ e. (omega (arith, ints), omega (arith, ints))) (λ e. (omega (arith, ints), omega (arith, ints)))
 
 chain : (x y z : ℤ) → x ≤ℤ y → y ≤ℤ z → x ≤ℤ z
 chain x y z p q = omega (arith, ints)
@@ -58,8 +47,8 @@ module _ (table : List Row) (j : ℕ) where
   )
   readings_more (Some ends) x is f =
       let here : (k : ℕ) × Reads (j + 1) table k x = (j, (omega arith, is)) in (
-        one_of (λ z. (k : ℕ) × Reads (j + 1) table k z) (lt_z x ends.0) x ends.0 here (wider ends.0 f.0),
-        one_of (λ z. (k : ℕ) × Reads (j + 1) table k z) (lt_z ends.1 x) x ends.1 here (wider ends.1 f.1),
+        cond_both (lt_z x ends.0) x ends.0 (λ z. (k : ℕ) × Reads (j + 1) table k z) (λ _. here) (λ _. wider ends.0 f.0),
+        cond_both (lt_z ends.1 x) x ends.1 (λ z. (k : ℕ) × Reads (j + 1) table k z) (λ _. here) (λ _. wider ends.1 f.1),
         λ k y r.
             let low = less_low x ends.0 in
             let high = more_high x ends.1 in
@@ -75,3 +64,19 @@ module _ (table : List Row) (j : ℕ) where
   readings_next o None is f = readings_skip o (λ x e. let z : ◌≡◌ {A = ℕ} 0 1 = cc in omega arith) f
   readings_next o (Some NotFeasible) is f = readings_skip o (λ x e. let z : ◌≡◌ {A = ℕ} 0 1 = cc in omega arith) f
   readings_next o (Some (Reading x)) is f = readings_more o x (sym is) f
+
+-- the ends once a row is seen
+abbrev pub seen : Option (ℤ × ℤ) → Row → Option (ℤ × ℤ)
+seen ends row = widened ends (shown_by row.entry)
+
+-- the rows from i on, one after another
+rest_seen : (table ys : List Row) (i : ℕ) (o : Option (ℤ × ℤ)) → ((k : ℕ) (d : Row) → get_or ys k d ≡ get_or table (i + k) d) → i + length ys ≡ length table
+    → ReadingsOf i table o → ReadingsOf (length table) table (fold seen o ys)
+rest_seen table [] i o same all f = let e : i ≡ length table = omega arith in subst (λ n. ReadingsOf n table o) e f
+rest_seen table (y ∷ ys) i o same all f =
+    let here : y ≡ row_at table i = same 0 no_row ∙ ap (λ (n : ℕ). get_or table n no_row) (omega arith) in
+    rest_seen table ys (i + 1) (seen o y) (λ k d. same (suc k) d ∙ ap (λ (n : ℕ). get_or table n d) (omega arith)) (omega arith)
+    (readings_next table i o (shown_by y.entry) (ap (λ (r : Row). shown_by r.entry) here) f)
+
+pub all_seen : (table : List Row) → ReadingsOf (length table) table (fold seen None table)
+all_seen table = rest_seen table table 0 None (λ k d. ap (λ (n : ℕ). get_or table n d) (omega arith)) (omega arith) (λ k x r. let h = r.0 in omega arith)

@@ -29,6 +29,11 @@ shown_allowed Waiting a h = let z : ◌≡◌ {A = ℕ} 0 1 = cc in absurd (omeg
 at_most : (x y : ℤ) → x ≤ℤ y → le_z x y ≡ true
 at_most x y h = grind (arith, ints)
 
+-- an entry that is not there fits
+pub none_fits : (ends : Option (ℤ × ℤ)) → entry_fits ends None ≡ true
+none_fits None = refl
+none_fits (Some ends) = refl
+
 module _ (n finest boxes : ℕ) (table : List Row) where
   reads_range : (j : ℕ) (x : ℤ) → Reads boxes table j x → in_range x ≡ true
   reads_range j x r = shown_allowed (row_at table j).entry (Reading x) r.1
@@ -47,10 +52,6 @@ module _ (n finest boxes : ℕ) (table : List Row) where
   answer_fits ends (Reading x) j f l h = reading_fits ends x j f (l, h)
   answer_fits None NotFeasible j f l h = refl
   answer_fits (Some ends) NotFeasible j f l h = refl
-
-  none_fits : (ends : Option (ℤ × ℤ)) → entry_fits ends None ≡ true
-  none_fits None = refl
-  none_fits (Some ends) = refl
 
   candidate_fits : (ends : Option (ℤ × ℤ)) (r : ℕ) (o : Option Candidate) → ReadingsOf boxes table ends → FirstOfRank n finest boxes table r o → entry_fits ends (answer_in o) ≡ true
   candidate_fits ends r None f first = none_fits ends

@@ -1,3 +1,4 @@
+pub mod Below
 pub mod Chains
 pub mod Ends
 pub mod FirstBoxes
@@ -5,3 +6,4 @@ pub mod Formed
 pub mod OneFront
 pub mod Orders
 pub mod Sums
+pub mod Unique

@@ -1,15 +1,13 @@
 -- Sums over the numbers below n, and tests.
-use Rattle.std.proofs.Common.{◌≡◌, ℕ, zero, suc, ◌+◌, ◌*◌, ◌<◌, ◌≤◌, Bool, true, false, ◌&&◌, T, ◌≢◌, ◌⊎◌, sym, refl, ap, ◌∙◌, inl, inr, mul-add, arith}
-use native.Mathlib.Decide.{dec_lt, ℕ_discrete}
+use Rattle.std.proofs.Common.{◌≡◌, ℕ, zero, suc, ◌+◌, ◌-◌, ◌*◌, ◌<◌, ◌≤◌, Bool, true, false, T, ◌≢◌, ◌⊎◌, sym, refl, ap, ◌∙◌, inl, inr, mul-add, arith}
+use Rattle.std.proofs.lemmas.Bool.{cases_eq}
+pub use lib.Ieee.Bits.{is_true as yes_is}
+pub use lib.Ieee.Fits.{and_i as both, and_l as both_left, and_r as both_right}
 use Rattle.table.specs.Sums.{sum, bit}
 
 pub test : (b : Bool) → T b ⊎ (T b → ⊥)
 test true = inl tt
 test false = inr (λ h. h)
-
-pub yes_is : (b : Bool) → T b → b ≡ true
-yes_is true h = refl
-yes_is false h = absurd h
 
 pub no_is : (b : Bool) → (T b → ⊥) → b ≡ false
 no_is true h = absurd (h tt)
@@ -20,24 +18,6 @@ bit_yes b h = ap bit (yes_is b h)
 
 pub bit_no : (b : Bool) → (T b → ⊥) → bit b ≡ 0
 bit_no b h = ap bit (no_is b h)
-
-pub both : (a b : Bool) → T a → T b → T (a && b)
-both true b h k = k
-both false b h k = h
-
-pub both_left : (a b : Bool) → T (a && b) → T a
-both_left true b h = tt
-both_left false b h = h
-
-pub both_right : (a b : Bool) → T (a && b) → T b
-both_right true b h = h
-both_right false b h = absurd h
-
-pub same : (a b : ℕ) → (a ≡ b) ⊎ (a ≢ b)
-same a b = elim (ℕ_discrete a b) [ yes e ↦ inl e | no h ↦ inr h ]
-
-pub less : (a b : ℕ) → (a < b) ⊎ (b ≤ a)
-less a b = elim (dec_lt a b) [ yes e ↦ inl e | no h ↦ inr (omega (arith, h)) ]
 
 pub sum_cong : (n : ℕ) (f g : ℕ → ℕ) → ((i : ℕ) → i < n → f i ≡ g i) → sum n f ≡ sum n g
 sum_cong zero f g h = refl
@@ -71,34 +51,27 @@ sum_times (suc n) k f = ap (λ x. x + k * f n) (sum_times n k f) ∙ sym (mul-ad
 pub sum_at : (n : ℕ) (f g : ℕ → ℕ) (j : ℕ) → j < n → ((i : ℕ) → i < n → i ≢ j → f i ≡ g i) → sum n f + g j ≡ sum n g + f j
 sum_at zero f g j l h = omega arith
 sum_at (suc n) f g j l h =
-    elim (same j n) [
+    elim (cases_eq j n) [
       | inl e ↦ let s : sum n f ≡ sum n g = sum_cong n f g (λ i k. h i (omega arith) (omega arith)) in
           let p : f j ≡ f n = ap f e in let q : g j ≡ g n = ap g e in omega arith
       | inr d ↦ omega (arith, sum_at n f g j (omega arith) (λ i k. h i (omega arith)), h n (omega arith) (omega arith))
     ]
 
-pub sum_none : (n : ℕ) (f : ℕ → ℕ) → sum n f ≡ 0 → (i : ℕ) → i < n → f i ≡ 0
-sum_none zero f e i l = omega arith
-sum_none (suc n) f e i l =
-    elim (same i n) [ inl p ↦ ap f p ∙ omega arith | inr d ↦ sum_none n f (omega arith) i (omega arith) ]
-
 pub sum_zero : (n : ℕ) (f : ℕ → ℕ) → ((i : ℕ) → i < n → f i ≡ 0) → sum n f ≡ 0
-sum_zero zero f h = refl
-sum_zero (suc n) f h = omega (arith, sum_zero n f (λ i k. h i (omega arith)), h n (omega arith))
-
-pub sum_term : (n : ℕ) (f : ℕ → ℕ) (i : ℕ) → i < n → f i ≤ sum n f
-sum_term zero f i l = omega arith
-sum_term (suc n) f i l =
-    elim (same i n) [ inl p ↦ omega (arith, ap f p) | inr d ↦ omega (arith, sum_term n f i (omega arith)) ]
+sum_zero n f h = omega (arith, sum_cong n f (λ _. 0) h, sum_const n 0)
 
 pub sum_grows : (a b : ℕ) (f : ℕ → ℕ) → a ≤ b → sum a f ≤ sum b f
-sum_grows a zero f h = let e : a ≡ 0 = omega arith in omega (arith, ap (λ x. sum x f) e)
-sum_grows a (suc b) f h =
-    elim (same a (suc b)) [ inl e ↦ omega (arith, ap (λ x. sum x f) e) | inr d ↦ omega (arith, sum_grows a b f (omega arith)) ]
+sum_grows a b f h = let e : a + (b - a) ≡ b = omega arith in omega (arith, ap (λ x. sum x f) e, sum_split a (b - a) f)
 
 -- a term in its place
 pub sum_fits : (n : ℕ) (f : ℕ → ℕ) (i : ℕ) → i < n → sum i f + f i ≤ sum n f
 sum_fits n f i l = omega (arith, sum_grows (suc i) n f l)
+
+pub sum_term : (n : ℕ) (f : ℕ → ℕ) (i : ℕ) → i < n → f i ≤ sum n f
+sum_term n f i l = omega (arith, sum_fits n f i l)
+
+pub sum_none : (n : ℕ) (f : ℕ → ℕ) → sum n f ≡ 0 → (i : ℕ) → i < n → f i ≡ 0
+sum_none n f e i l = omega (arith, sum_term n f i l)
 
 pub sum_under : (n k : ℕ) (f : ℕ → ℕ) → ((i : ℕ) → i < n → f i ≤ k) → sum n f ≤ n * k
 sum_under n k f h = omega (arith, sum_mono n f (λ _. k) h, sum_const n k)
@@ -109,7 +82,7 @@ sum_over n k f h = omega (arith, sum_mono n (λ _. k) f h, sum_const n k)
 pub sum_short : (n k : ℕ) (f : ℕ → ℕ) (d : ℕ) → d < n → f d < k → ((i : ℕ) → i < n → f i ≤ k) → sum n f < n * k
 sum_short zero k f d l a h = absurd (omega arith)
 sum_short (suc n) k f d l a h =
-    elim (same d n) [
+    elim (cases_eq d n) [
       | inl e ↦ omega (arith, native.Mathlib.Nat.suc-mul n k, ap f e, sum_under n k f (λ i j. h i (omega arith)))
       | inr x ↦ omega (arith, native.Mathlib.Nat.suc-mul n k, h n (omega arith), sum_short n k f d (omega arith) a (λ i j. h i (omega arith)))
     ]

@@ -30,8 +30,8 @@ impl Shape {
         ensures { result ≡ rank self.now.n row.now }
     {
         let mut rank = 0;
-        for d in 0..self.n as usize {
-            rank += row.levels[d] as usize;
+        for span in &row.spans[..usize::from(self.n)] {
+            rank += usize::from(span.level);
         }
         rank
     }
@@ -40,12 +40,12 @@ impl Shape {
     pub fn firsts(&self, boxes: &[Row]) -> [Option<Candidate>; RANKS]
         ensures { (r : ℕ) → r < 114 → FirstOfRank self.now.n self.now.finest (length boxes.now) boxes.now r (slice_index_or result r None) }
     {
-        let below = self.n as usize * self.finest as usize;
+        let below = usize::from(self.n) * usize::from(self.finest);
         let mut firsts = [None; RANKS];
-        for row in 0..boxes.len() {
-            let rank = self.rank_of(&boxes[row]);
+        for (row, held) in boxes.iter().enumerate() {
+            let rank = self.rank_of(held);
             if rank < below {
-                if let Some(answer) = boxes[row].entry.shown() {
+                if let Some(answer) = held.entry.shown() {
                     firsts[rank] = Some(earlier(firsts[rank], Candidate { answer, row }));
                 }
             }

@@ -16,10 +16,7 @@ fn widened(ends: Option<(i32, i32)>, answer: Option<Answer>) -> Option<(i32, i32
 {
     match (ends, answer) {
         (None, Some(Answer::Reading(x))) => Some((x, x)),
-        (Some((low, high)), Some(Answer::Reading(x))) => Some((
-            if x < low { x } else { low },
-            if high < x { x } else { high },
-        )),
+        (Some((low, high)), Some(Answer::Reading(x))) => Some((x.min(low), x.max(high))),
         _ => ends,
     }
 }
@@ -28,24 +25,16 @@ fn widened(ends: Option<(i32, i32)>, answer: Option<Answer>) -> Option<(i32, i32
 fn readings_of(boxes: &[Row]) -> Option<(i32, i32)>
     ensures { ReadingsOf (length boxes.now) boxes.now result }
 {
-    let mut ends = None;
-    for j in 0..boxes.len() {
-        ends = widened(ends, boxes[j].entry.shown());
-    }
-    ends
+    boxes
+        .iter()
+        .fold(None, |ends, row| widened(ends, row.entry.shown()))
 }
 
 // The answer of the first box of each rank.
 fn entries_of(firsts: &[Option<Candidate>; RANKS]) -> [Option<Answer>; RANKS]
     ensures { (r : ℕ) → r < 114 → slice_index_or result r None ≡ answer_in (slice_index_or firsts.now r None) }
 {
-    let mut entries = [None; RANKS];
-    for r in 0..RANKS {
-        if let Some(first) = firsts[r] {
-            entries[r] = Some(first.answer);
-        }
-    }
-    entries
+    firsts.map(|first| first.map(|held| held.answer))
 }
 
 impl Shape {

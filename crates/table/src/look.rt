@@ -1,23 +1,21 @@
 // Whether rows are the boxes of a search.
-ghost use Rattle.std.specs.Prelude.{ℕ, ◌+◌, ◌<◌, ◌≤◌, length, Decides, slice_index};
+ghost use Rattle.std.specs.Prelude.{ℕ, ◌+◌, ◌<◌, ◌≤◌, length, Decides};
 ghost use Rattle.table.specs.Boxes.{InDirection, IsBox, Own};
+ghost use Rattle.table.specs.Rows.{level_of};
 
 use crate::rows::{Row, SIDES};
 use crate::shape::Shape;
-use grid::interval::Interval;
 
-// Whether the level in direction d is at most one above that of each of the first n directions.
-fn is_near(levels: &[u8; SIDES], n: usize, d: usize) -> bool
-    requires { (n ≤ 6) × (d < 6) }
-    ensures { Decides result ((e : ℕ) → e < n → slice_index levels.now d ≤ slice_index levels.now e + 1) }
+// Whether a level is at most one above that of each of the first n directions of a row.
+fn is_near(row: &Row, n: usize, level: u8) -> bool
+    requires { n ≤ 6 }
+    ensures { Decides result ((e : ℕ) → e < n → level ≤ level_of row.now e + 1) }
 {
-    let top = levels[d] as u16;
-    for e in 0..n {
-        if top > levels[e] as u16 + 1 {
-            return false;
-        }
-    }
-    true
+    let top = u16::from(level);
+    row.spans
+        .iter()
+        .take(n)
+        .all(|span| top <= u16::from(span.level) + 1)
 }
 
 // Whether a row has in direction d what a box has there.
@@ -25,45 +23,37 @@ fn is_box_in(row: &Row, n: usize, finest: u8, d: usize) -> bool
     requires { (n ≤ 6) × (d < 6) }
     ensures { Decides result (InDirection n finest row.now d) }
 {
-    let level = row.levels[d];
-    if Interval::new(row.firsts[d], level).is_none() {
+    let span = row.spans[d];
+    if span.interval().is_none() {
         return false;
     }
     if d < n {
-        level <= finest && is_near(&row.levels, n, d)
+        span.level <= finest && is_near(row, n, span.level)
     } else {
-        level == 0
+        span.level == 0
     }
 }
 
 impl Shape {
+    // Whether a row has in each direction what a box has there.
+    fn has_form(&self, row: &Row) -> bool
+        ensures { Decides result ((d : ℕ) → d < 6 → InDirection self.now.n self.now.finest row.now d) }
+    {
+        let n = usize::from(self.n);
+        (0..SIDES).all(|d| is_box_in(row, n, self.finest, d))
+    }
+
     // Whether a row is a box with its answer.
     pub fn is_box(&self, row: &Row) -> bool
         ensures { Decides result (IsBox self.now.n self.now.finest row.now) }
     {
-        if row.entry.waits() {
-            return false;
-        }
-        for d in 0..SIDES {
-            if !is_box_in(row, self.n as usize, self.finest, d) {
-                return false;
-            }
-        }
-        true
+        !row.entry.waits() && self.has_form(row)
     }
 
     // Whether the first rows of a table, as many as there are boxes, are boxes with their answers.
     pub fn owns(&self, table: &[Row], boxes: usize) -> bool
         ensures { Decides result (Own self.now.n self.now.finest boxes table.now) }
     {
-        if table.len() < boxes {
-            return false;
-        }
-        for j in 0..boxes {
-            if !self.is_box(&table[j]) {
-                return false;
-            }
-        }
-        true
+        boxes <= table.len() && table[..boxes].iter().all(|row| self.is_box(row))
     }
 }

@@ -1,30 +1,58 @@
 // What a row of the caller's table holds: plain numbers, and any of them.
-ghost use Rattle.std.specs.Prelude.{◌≡◌};
-ghost use Rattle.order.specs.Answers.{answer_before};
+ghost use Rattle.std.specs.Prelude.{◌≡◌, MatchOption};
+ghost use Rattle.grid.specs.Grid.{IsInterval};
 ghost use Rattle.order.specs.declared.answer.Answer.{Answer as AnswerKey};
 ghost use Rattle.table.specs.Entries.{answer_of, shown_by, waiting};
-ghost use Rattle.table.specs.Rows.{whole_grid};
+ghost use Rattle.table.specs.Rows.{span_of, whole_grid};
 ghost use Rattle.std.proofs.Common.{rules};
 
+use grid::interval::Interval;
 use order::answer::Answer;
 use order::ordered::Ordered;
 
 // How many directions a row has numbers for.
 pub const SIDES: usize = 6;
 
+// A first cell and a level: an interval only where they have the form of one.
+#[derive(Clone, Copy, PartialEq, Eq, Debug)]
+pub struct Span {
+    pub first: u32,
+    pub level: u8,
+}
+
 // What stands beside a row's box. A reading out of range reads as the waiting mark.
-#[derive(Clone, Copy)]
+// An `Option` would be no plainer: its `is_some` would not say that a row has an answer.
+#[derive(Clone, Copy, PartialEq, Eq, Debug)]
 pub enum Entry {
     Waiting,
     Answered(Answer),
 }
 
-// A first cell and a level in each of six directions, and an entry.
-#[derive(Clone, Copy)]
+// A span in each of six directions, and an entry.
+#[derive(Clone, Copy, PartialEq, Eq, Debug)]
 pub struct Row {
-    pub firsts: [u32; SIDES],
-    pub levels: [u8; SIDES],
+    pub spans: [Span; SIDES],
     pub entry: Entry,
+}
+
+impl Span {
+    // The interval that its numbers make, or none where they make none.
+    pub fn interval(self) -> Option<Interval>
+        ensures { MatchOption result (IsInterval self.first self.level → ⊥) (λ i. (i.first ≡ self.first) × (i.level ≡ self.level)) }
+    {
+        Interval::new(self.first, self.level)
+    }
+}
+
+impl From<Interval> for Span {
+    ghost from_gives = { λ i s. s ≡ span_of i };
+
+    fn from(interval: Interval) -> Span {
+        Span {
+            first: interval.first(),
+            level: interval.level(),
+        }
+    }
 }
 
 impl Entry {
@@ -33,12 +61,8 @@ impl Entry {
         ensures { result ≡ shown_by self }
     {
         match self {
-            Entry::Answered(answer) => if answer.is_allowed() {
-                Some(answer)
-            } else {
-                None
-            },
-            Entry::Waiting => None,
+            Entry::Answered(answer) if answer.is_allowed() => Some(answer),
+            _ => None,
         }
     }
 
@@ -53,10 +77,7 @@ impl Entry {
     pub fn answer(self) -> Answer
         ensures { result ≡ answer_of self }
     {
-        match self.shown() {
-            Some(answer) => answer,
-            None => Answer::NotFeasible,
-        }
+        self.shown().unwrap_or(Answer::NotFeasible)
     }
 }
 
@@ -66,8 +87,7 @@ impl Row {
         ensures { result ≡ whole_grid entry }
     {
         Row {
-            firsts: [0; SIDES],
-            levels: [0; SIDES],
+            spans: [Span { first: 0, level: 0 }; SIDES],
             entry,
         }
     }
@@ -75,19 +95,13 @@ impl Row {
 
 // Rows go by their answers; among equal answers `least` takes the lower row.
 impl Ordered for Row {
-    ghost Key = { AnswerKey };
+    type Key = Answer;
 
     ghost key = { λ r. answer_of r.entry };
 
-    ghost before = { answer_before };
-
-    ghost irreflexive = { Prim.search rules };
-
-    ghost transitive = { Prim.search rules };
-
     ghost total = { Prim.search rules };
 
-    fn precedes(&self, other: &Row) -> bool {
-        self.entry.answer().is_before(other.entry.answer())
+    fn key(&self) -> Answer {
+        self.entry.answer()
     }
 }

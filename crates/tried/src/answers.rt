@@ -23,8 +23,8 @@ fn first_of_answers(rt: HostRuntime) {
         Answer::Reading(-3),
     ];
     assert_eq!(rt; least(&answers), Some(2));
-    assert_eq!(rt; least(&answers[0..1]), Some(0));
-    assert_eq!(rt; least(&answers[0..0]), None);
+    assert_eq!(rt; least(&answers[..1]), Some(0));
+    assert_eq!(rt; least(&answers[..0]), None);
     assert_eq!(rt; first_of(&answers), Some(Answer::Reading(-3)));
 }
 

@@ -76,9 +76,9 @@ fn rows_run_out(rt: HostRuntime) {
     assert_eq!(rt; refused(b"BG\x01\x13NF", &mut none), Some((3, 0)));
     let mut table = [Row::whole(Entry::Waiting); 3];
     assert_eq!(rt; refused(b"BG\x01\x13NFRENFNFRE", &mut table), Some((7, 12)));
-    assert_eq!(rt; table[0].levels[0], 1);
-    assert_eq!(rt; table[0].firsts[0], 387_420_489);
-    assert_eq!(rt; table[2].firsts[0], 774_840_978);
+    assert_eq!(rt; table[0].spans[0].level, 1);
+    assert_eq!(rt; table[0].spans[0].first, 387_420_489);
+    assert_eq!(rt; table[2].spans[0].first, 774_840_978);
 }
 
 // Points of an open round stay answered or waiting, and its box is not cut.
@@ -88,5 +88,5 @@ fn points_due(rt: HostRuntime) {
     assert_eq!(rt; refused(b"BG\x01\x13NFRENF", &mut table), Some((17, 10)));
     assert!(rt; !table[1].entry.waits());
     assert!(rt; table[2].entry.waits());
-    assert_eq!(rt; table[0].levels[0], 0);
+    assert_eq!(rt; table[0].spans[0].level, 0);
 }

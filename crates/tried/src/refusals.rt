@@ -31,9 +31,9 @@ fn numbers(rt: HostRuntime) {
 
 #[test]
 fn causes_differ(rt: HostRuntime) {
-    for i in 0..ALL.len() {
-        for j in 0..ALL.len() {
-            assert_eq!(rt; ALL[i].0 == ALL[j].0, i == j);
+    for (a, number) in ALL {
+        for (b, other) in ALL {
+            assert_eq!(rt; a == b, number == other);
         }
     }
 }

@@ -7,27 +7,12 @@ use search::begin::begin;
 use search::states::{Rest, Round};
 use search::worked::first_round;
 use std::test::Fail;
-use table::rows::{Entry, Row};
+use table::rows::{Entry, Row, Span};
 
 const WAITING: Row = Row {
-    firsts: [7; 6],
-    levels: [9; 6],
+    spans: [Span { first: 7, level: 9 }; 6],
     entry: Entry::Waiting,
 };
-
-fn opened(rest: Rest, table: &mut [Row]) -> Result<Round, Refusal> {
-    match rest.open(&Every {}, table) {
-        Ok(round) => Ok(round),
-        Err(refused) => Err(refused.0),
-    }
-}
-
-fn closed(round: Round, table: &mut [Row]) -> Result<Rest, Refusal> {
-    match round.close(table) {
-        Ok(rest) => Ok(rest),
-        Err(refused) => Err(refused.0),
-    }
-}
 
 // Two directions with middle 50 and the answers 40, 70, 30, 60, after one round by Every.
 fn divided(table: &mut [Row]) -> Result<Rest, Refusal> {
@@ -43,15 +28,15 @@ fn divided(table: &mut [Row]) -> Result<Rest, Refusal> {
 #[test]
 fn refusals_of_begin(rt: HostRuntime) -> Result<(), Fail> {
     let mut table = [WAITING; 1];
-    let Err(why) = begin(0, 0, &mut table[0..0], Answer::Reading(2_000_000_000)) else {
+    let Err(why) = begin(0, 0, &mut table[..0], Answer::Reading(2_000_000_000)) else {
         return Err(Fail::new("no direction"));
     };
     assert_eq!(rt; why.number(), 1);
-    let Err(why) = begin(6, 20, &mut table[0..0], Answer::Reading(2_000_000_000)) else {
+    let Err(why) = begin(6, 20, &mut table[..0], Answer::Reading(2_000_000_000)) else {
         return Err(Fail::new("level 20"));
     };
     assert_eq!(rt; why.number(), 2);
-    let Err(why) = begin(6, 19, &mut table[0..0], Answer::Reading(2_000_000_000)) else {
+    let Err(why) = begin(6, 19, &mut table[..0], Answer::Reading(2_000_000_000)) else {
         return Err(Fail::new("no row"));
     };
     assert_eq!(rt; why.number(), 3);
@@ -59,7 +44,7 @@ fn refusals_of_begin(rt: HostRuntime) -> Result<(), Fail> {
         return Err(Fail::new("no reading"));
     };
     assert_eq!(rt; why.number(), 4);
-    assert_eq!(rt; table[0].levels[5], 9);
+    assert_eq!(rt; table[0].spans[5].level, 9);
     Ok(())
 }
 
@@ -77,8 +62,8 @@ fn first_division(rt: HostRuntime) -> Result<(), Fail> {
     assert_eq!(rt; shape.rank_of(&table[0]), 2);
     assert_eq!(rt; shape.rank_of(&table[1]), 2);
     assert_eq!(rt; shape.rank_of(&table[2]), 2);
-    assert_eq!(rt; table[1].firsts[1], 387_420_489);
-    assert_eq!(rt; table[5].levels[0], 9);
+    assert_eq!(rt; table[1].spans[1].first, 387_420_489);
+    assert_eq!(rt; table[5].spans[0].level, 9);
     let Ok(best) = rest.best(&table) else {
         return Err(Fail::new("best"));
     };
@@ -92,7 +77,7 @@ fn third_point_of_the_second_round(rt: HostRuntime) -> Result<(), Fail> {
     let Ok(rest) = divided(&mut table) else {
         return Err(Fail::new("a round"));
     };
-    let Ok(round) = opened(rest, &mut table) else {
+    let Ok(round) = rest.open(&Every {}, &mut table) else {
         return Err(Fail::new("a second round"));
     };
     assert_eq!(rt; round.points(), 6);
@@ -105,7 +90,7 @@ fn third_point_of_the_second_round(rt: HostRuntime) -> Result<(), Fail> {
         return Err(Fail::new("point 6"));
     };
     assert_eq!(rt; why, Refusal::NoSuchPoint);
-    let Err(why) = round.locate(0, &table, &mut cells[0..1]) else {
+    let Err(why) = round.locate(0, &table, &mut cells[..1]) else {
         return Err(Fail::new("a short list"));
     };
     assert_eq!(rt; why, Refusal::ShortCellList);
@@ -118,11 +103,11 @@ fn room_for_points(rt: HostRuntime) -> Result<(), Fail> {
     let Ok(rest) = begin(2, 19, &mut table, Answer::Reading(1)) else {
         return Err(Fail::new("a search"));
     };
-    let Err(refused) = rest.open(&Every {}, &mut table[0..4]) else {
+    let Err(refused) = rest.open(&Every {}, &mut table[..4]) else {
         return Err(Fail::new("four rows"));
     };
     assert_eq!(rt; refused.0, Refusal::NoRoom);
-    let Ok(round) = opened(refused.1, &mut table) else {
+    let Ok(round) = refused.1.open(&Every {}, &mut table) else {
         return Err(Fail::new("five rows"));
     };
     assert_eq!(rt; round.points(), 4);
@@ -135,7 +120,7 @@ fn answers_to_points(rt: HostRuntime) -> Result<(), Fail> {
     let Ok(rest) = begin(1, 1, &mut table, Answer::Reading(1)) else {
         return Err(Fail::new("a search"));
     };
-    let Ok(round) = opened(rest, &mut table) else {
+    let Ok(round) = rest.open(&Every {}, &mut table) else {
         return Err(Fail::new("a round"));
     };
     assert!(rt; round.answer(0, Answer::NotFeasible, &mut table).is_ok());
@@ -153,7 +138,7 @@ fn answers_to_points(rt: HostRuntime) -> Result<(), Fail> {
     assert_eq!(rt; refused.0, Refusal::PointWaits);
     let round = refused.1;
     assert!(rt; round.answer(1, Answer::Reading(-9), &mut table).is_ok());
-    let Ok(rest) = closed(round, &mut table) else {
+    let Ok(rest) = round.close(&mut table) else {
         return Err(Fail::new("closing"));
     };
     let Err(refused) = rest.open(&Every {}, &mut table) else {
@@ -169,12 +154,12 @@ fn tables_of_others(rt: HostRuntime) -> Result<(), Fail> {
     let Ok(rest) = divided(&mut table) else {
         return Err(Fail::new("a round"));
     };
-    table[4].levels[1] = 3;
+    table[4].spans[1].level = 3;
     let Err(why) = rest.best(&table) else {
         return Err(Fail::new("a damaged row"));
     };
     assert_eq!(rt; why, Refusal::NotOwnTable);
-    let Err(why) = rest.best(&table[0..4]) else {
+    let Err(why) = rest.best(&table[..4]) else {
         return Err(Fail::new("a short table"));
     };
     assert_eq!(rt; why, Refusal::NotOwnTable);

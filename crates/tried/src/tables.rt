@@ -2,31 +2,29 @@
 use order::answer::Answer;
 use refusal::Refusal;
 use std::test::Fail;
-use table::rows::{Entry, Row};
+use table::rows::{Entry, Row, Span};
 use table::shape::Shape;
 
-// The five boxes of the first division of two directions, by their levels and readings.
+fn span(first: u32, level: u8) -> Span {
+    Span { first, level }
+}
+
+// The five boxes of the first division of two directions, by their spans and readings.
 fn division() -> [Row; 5] {
     let third = 387_420_489;
-    let row = Row::whole(Entry::Waiting);
-    let mut rows = [row; 5];
     let boxes = [
-        ([third, third], [1, 1], 50),
-        ([0, third], [1, 1], 40),
-        ([2 * third, third], [1, 1], 70),
-        ([0, 0], [0, 1], 30),
-        ([0, 2 * third], [0, 1], 60),
+        (span(third, 1), span(third, 1), 50),
+        (span(0, 1), span(third, 1), 40),
+        (span(774_840_978, 1), span(third, 1), 70),
+        (span(0, 0), span(0, 1), 30),
+        (span(0, 0), span(774_840_978, 1), 60),
     ];
-    for (j, (firsts, levels, reading)) in boxes.iter().enumerate() {
-        if j < 5 {
-            rows[j].firsts[0] = firsts[0];
-            rows[j].firsts[1] = firsts[1];
-            rows[j].levels[0] = levels[0];
-            rows[j].levels[1] = levels[1];
-            rows[j].entry = Entry::Answered(Answer::Reading(*reading));
-        }
-    }
-    rows
+    boxes.map(|(first, second, reading)| {
+        let mut row = Row::whole(Entry::Answered(Answer::Reading(reading)));
+        row.spans[0] = first;
+        row.spans[1] = second;
+        row
+    })
 }
 
 #[test]
@@ -61,13 +59,13 @@ fn boxes_of_a_search(rt: HostRuntime) -> Result<(), Fail> {
     assert_eq!(rt; shape.rank_of(&rows[0]), 2);
     assert_eq!(rt; shape.rank_of(&rows[3]), 1);
     let mut bad = rows;
-    bad[4].firsts[1] = 1;
+    bad[4].spans[1].first = 1;
     assert!(rt; !shape.owns(&bad, 5));
     bad = rows;
-    bad[4].levels[5] = 1;
+    bad[4].spans[5].level = 1;
     assert!(rt; !shape.owns(&bad, 5));
     bad = rows;
-    bad[4].levels[1] = 2;
+    bad[4].spans[1].level = 2;
     assert!(rt; !shape.owns(&bad, 5));
     Ok(())
 }

@@ -1,34 +1,30 @@
 // Settings of the two dials, as cells, and the sides of boxes.
 ghost use Rattle.std.specs.Prelude.{◌≡◌, Ok, Err};
-ghost use Rattle.table.specs.Rows.{level_of};
 ghost use Rattle.tune.specs.Sides.{Within};
 
 use crate::settings::DIALS;
 use grid::interval::Interval;
 use refusal::Refusal;
 use std::fmt;
-use table::rows::Row;
+use table::rows::{Row, Span};
 
 // A cell in each direction.
 #[derive(Clone, Copy)]
 pub struct Cell(pub [u32; DIALS]);
 
-// The interval of a row in a direction; a row without one is no box of a search.
-fn side_of(row: &Row, d: usize) -> Result<Interval, Refusal>
-    ensures { elim result [ Ok side ↦ side.level ≡ level_of row.now d | Err _ ↦ Unit {0} ] }
+// The interval of a span; a row with a span that is none is no box of a search.
+fn side_of(span: Span) -> Result<Interval, Refusal>
+    ensures { elim result [ Ok side ↦ side.level ≡ span.level | Err _ ↦ Unit {0} ] }
 {
-    if d >= DIALS {
-        return Err(Refusal::NotOwnTable);
-    }
-    Interval::new(row.firsts[d], row.levels[d]).ok_or(Refusal::NotOwnTable)
+    span.interval().ok_or(Refusal::NotOwnTable)
 }
 
 impl Cell {
     // The middle cell of a box.
     pub fn middle_of(row: &Row) -> Result<Cell, Refusal> {
         let mut cell = [0; DIALS];
-        for d in 0..DIALS {
-            cell[d] = side_of(row, d)?.middle();
+        for (middle, span) in cell.iter_mut().zip(&row.spans) {
+            *middle = side_of(*span)?.middle();
         }
         Ok(Cell(cell))
     }
@@ -38,8 +34,8 @@ impl Cell {
 pub fn longest_side_of(row: &Row) -> Result<u32, Refusal>
     ensures { elim result [ Ok most ↦ Within row.now most | Err _ ↦ Unit {0} ] }
 {
-    let first = side_of(row, 0)?.length();
-    let second = side_of(row, 1)?.length();
+    let first = side_of(row.spans[0])?.length();
+    let second = side_of(row.spans[1])?.length();
     Ok(first.max(second))
 }
 

@@ -17,11 +17,9 @@ pub struct Cut {
 
 // The answer of a row; none counts as "not feasible".
 fn answer_of(table: &[Row], row: usize) -> Answer {
-    if row < table.len() {
-        table[row].entry.answer()
-    } else {
-        Answer::NotFeasible
-    }
+    table
+        .get(row)
+        .map_or(Answer::NotFeasible, |row| row.entry.answer())
 }
 
 // A direction whose low point has the row `base`, and its high point the next.
@@ -50,15 +48,13 @@ impl Cut {
                 second: Some(second),
             };
         }
-        let long = if row < table.len() && table[row].levels[0] > table[row].levels[1] {
-            1
-        } else {
-            0
-        };
+        let second_is_longer = table
+            .get(row)
+            .is_some_and(|row| row.spans[0].level > row.spans[1].level);
         Cut {
             row,
             rank,
-            first: direction(table, long, base),
+            first: direction(table, usize::from(second_is_longer), base),
             second: None,
         }
     }

@@ -15,8 +15,8 @@ pub fn longest_side(boxes: &[Row]) -> Result<u32, Refusal>
     ensures { elim result [ Ok most ↦ AllWithin (length boxes.now) boxes.now most | Err _ ↦ Unit {0} ] }
 {
     let mut longest = 0;
-    for j in 0..boxes.len() {
-        longest = longest_side_of(&boxes[j])?.max(longest);
+    for row in boxes {
+        longest = longest_side_of(row)?.max(longest);
     }
     Ok(longest)
 }

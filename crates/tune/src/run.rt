@@ -38,10 +38,7 @@ fn finish(rt: &HostRuntime, round: Round, table: &mut [Row]) -> Result<Rest, Sto
     print_chosen(rt, &round)?;
     answer_all(rt, &round, table)?;
     print_cuts(rt, &round, table)?;
-    let rest = match round.close(table) {
-        Ok(rest) => rest,
-        Err(refused) => return Err(Stop::Refused(refused.0)),
-    };
+    let rest = round.close(table)?;
     print_best(rt, "  best so far", &rest, table)?;
     Ok(rest)
 }

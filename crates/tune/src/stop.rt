@@ -15,6 +15,13 @@ impl From<Refusal> for Stop {
     }
 }
 
+// A refusal beside what it hands back.
+impl<S: Drop> From<(Refusal, S)> for Stop {
+    fn from(refused: (Refusal, S)) -> Stop {
+        Stop::Refused(refused.0)
+    }
+}
+
 impl From<io::Error> for Stop {
     fn from(error: io::Error) -> Stop {
         Stop::Failed(error)

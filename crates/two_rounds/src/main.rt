@@ -9,34 +9,20 @@ use search::states::{Rest, Round};
 use std::io;
 use table::rows::{Entry, Row};
 
-fn opened(rest: Rest, table: &mut [Row]) -> Result<Round, Refusal> {
-    match rest.open(&Every {}, table) {
-        Ok(round) => Ok(round),
-        Err(refused) => Err(refused.0),
-    }
-}
-
 // Answers both points of a round.
 fn answer(round: &Round, low: Answer, high: Answer, table: &mut [Row]) -> Result<(), Refusal> {
     round.answer(0, low, table)?;
     round.answer(1, high, table)
 }
 
-fn closed(round: Round, table: &mut [Row]) -> Result<Rest, Refusal> {
-    match round.close(table) {
-        Ok(rest) => Ok(rest),
-        Err(refused) => Err(refused.0),
-    }
-}
-
 fn two_rounds(table: &mut [Row]) -> Result<Rest, Refusal> {
     let rest = begin(1, 19, table, Answer::Reading(5))?;
-    let first = opened(rest, table)?;
+    let first = rest.open(&Every {}, table)?;
     answer(&first, Answer::Reading(3), Answer::NotFeasible, table)?;
-    let rest = closed(first, table)?;
-    let second = opened(rest, table)?;
+    let rest = first.close(table)?;
+    let second = rest.open(&Every {}, table)?;
     answer(&second, Answer::Reading(4), Answer::Reading(2), table)?;
-    closed(second, table)
+    Ok(second.close(table)?)
 }
 
 fn main(rt: HostRuntime) -> io::Result<()> {

@@ -6,9 +6,8 @@ ghost use Rattle.hull.specs.Optimal.{BySlope, Chosen, ProductsFit};
 ghost use Rattle.hull.specs.Chosen.{hull_sound, hull_reaches};
 
 use super::Hull;
-use super::taken::taken_ranks;
+use super::sizes::Sizes;
 use policy::front::Front;
-use policy::front::levels::LEVELS;
 use policy::policy::Policy;
 use ranks::rank_set::RankSet;
 
@@ -26,15 +25,6 @@ impl Policy for Hull {
         ensures slopes { (j : ℕ) → (ranks result j ≡ true) ↔ BySlope self.now.share front.now j }
         ensures products { ProductsFit self.now.share front.now }
     {
-        let table = taken_ranks(front);
-        let mut chosen = RankSet::empty();
-        for at in 0..LEVELS {
-            if let Some(j) = table[at] {
-                if self.is_chosen(front, &table, j.rank) {
-                    chosen.insert(j.rank);
-                }
-            }
-        }
-        chosen
+        Sizes::of(*self, front).chosen()
     }
 }

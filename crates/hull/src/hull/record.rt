@@ -5,14 +5,14 @@ use super::Hull;
 use policy::recordable::Recordable;
 
 // The mark of Hull: a pattern can name a constant of a module, and none of a trait.
-pub const HULL_MARK: [u8; 2] = [b'R', b'H'];
+pub const HULL_MARK: [u8; 2] = *b"RH";
 
 impl Recordable for Hull {
     ghost mark = { codes "RH" };
 
     ghost body = { 2 };
 
-    const MARK: [u8; 2] = *b"RH";
+    const MARK: [u8; 2] = HULL_MARK;
 
     const BODY: usize = 2;
 

@@ -15,34 +15,32 @@ use refusal::Refusal;
 impl<P> Cap<P> {
     // A cap of another policy.
     pub fn of(most: Most, inner: P) -> Cap<P>
-        ensures { (result.most ≡ most.number) × (result.inner ≡ inner) }
+        ensures { (result.most ≡ most) × (result.inner ≡ inner) }
     {
-        Cap {
-            most: most.number,
-            inner,
-        }
+        Cap { most, inner }
     }
 
     // A cap of 1 to 114 ranks; with any other number the policy comes back beside the refusal.
     pub fn new(most: u8, inner: P) -> Result<Cap<P>, (Refusal, P)>
-        ensures { Check ((1 ≤ most) × (most ≤ 114)) (result ≡ Err (CapOutOfRange, inner)) (Gives result (λ c. (c.most ≡ most) × (c.inner ≡ inner))) }
+        ensures { Check ((1 ≤ most) × (most ≤ 114)) (result ≡ Err (CapOutOfRange, inner)) (Gives result (λ c. (c.most.number ≡ most) × (c.inner ≡ inner))) }
     {
-        if most >= 1 && most <= 114 {
-            Ok(Cap { most, inner })
-        } else {
-            Err((Refusal::CapOutOfRange, inner))
+        match Most::try_from(most) {
+            Ok(most) => Ok(Cap { most, inner }),
+            Err(why) => Err((why, inner)),
         }
     }
 }
 
 impl<P: Policy> Policy for Cap<P> {
-    ghost chosen = { λ c f. lowest_of c.most (P.Policy.chosen c.inner f) };
+    ghost chosen = { λ c f. lowest_of c.most.number (P.Policy.chosen c.inner f) };
 
     ghost sound = { Prim.search rules };
 
-    ghost reaches = { λ c f. capped_reaches f (P.Policy.chosen c.inner f) c.most c.form.0 (P.Policy.sound c.inner f) (P.Policy.reaches c.inner f) };
+    ghost reaches = { λ c f. capped_reaches f (P.Policy.chosen c.inner f) c.most.number c.most.form.0 (P.Policy.sound c.inner f) (P.Policy.reaches c.inner f) };
 
     fn choose(&self, front: &Front) -> RankSet {
-        self.inner.choose(front).lowest(self.most as usize)
+        self.inner
+            .choose(front)
+            .lowest(usize::from(self.most.number))
     }
 }

@@ -33,24 +33,14 @@ fn entry_fits(readings: Option<(i32, i32)>, entry: Option<Answer>) -> bool
 fn all_fit(readings: Option<(i32, i32)>, entries: &[Option<Answer>; RANKS]) -> bool
     ensures { Decides result (AllFit readings entries.now) }
 {
-    for rank in 0..RANKS {
-        if !entry_fits(readings, entries[rank]) {
-            return false;
-        }
-    }
-    true
+    entries.iter().all(|entry| entry_fits(readings, *entry))
 }
 
 // Whether the entries from a rank on are empty.
 fn empty_from(low: usize, entries: &[Option<Answer>; RANKS]) -> bool
     ensures { Decides result (EmptyFrom low entries.now) }
 {
-    for rank in low..RANKS {
-        if entries[rank].is_some() {
-            return false;
-        }
-    }
-    true
+    entries.iter().skip(low).all(|entry| entry.is_none())
 }
 
 impl Front {
@@ -62,10 +52,8 @@ impl Front {
     ) -> Option<Front>
         ensures { MatchOption result (IsFront directions entries readings → ⊥) (λ f. (f.directions ≡ directions) × (f.entries ≡ entries) × (f.readings ≡ readings)) }
     {
-        if directions < 1 || directions > 6 {
-            return None;
-        }
-        if empty_from(19 * directions as usize, &entries)
+        if (1..=6).contains(&directions)
+            && empty_from(19 * usize::from(directions), &entries)
             && ends_fit(readings)
             && all_fit(readings, &entries)
         {

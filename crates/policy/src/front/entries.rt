@@ -1,10 +1,11 @@
 // Reading a front.
 ghost use Rattle.std.specs.Prelude.{◌≡◌};
-ghost use Rattle.policy.specs.Levels.{entry, level};
+ghost use Rattle.ranks.specs.Ranks.{ranks};
+ghost use Rattle.policy.specs.Levels.{entry, filled, level};
 
 use super::Front;
 use order::answer::Answer;
-use ranks::rank_set::RANKS;
+use ranks::rank_set::RankSet;
 
 impl Front {
     // The number of directions.
@@ -18,11 +19,20 @@ impl Front {
     pub fn entry(&self, rank: usize) -> Option<Answer>
         ensures { result ≡ entry self.now rank }
     {
-        if rank < RANKS {
-            self.entries[rank]
-        } else {
-            None
+        self.entries.get(rank).copied().flatten()
+    }
+
+    // The ranks with a filled entry.
+    pub(crate) fn filled(&self) -> RankSet
+        ensures { ranks result ≡ filled self.now }
+    {
+        let mut chosen = RankSet::empty();
+        for (rank, entry) in self.entries.iter().enumerate() {
+            if entry.is_some() {
+                chosen.insert(rank);
+            }
         }
+        chosen
     }
 
     // The least and the greatest reading of all boxes, or none.
@@ -36,6 +46,6 @@ impl Front {
     pub fn level(&self, rank: usize) -> usize
         ensures { result ≡ level self.now rank }
     {
-        rank / self.directions as usize
+        rank / usize::from(self.directions)
     }
 }

@@ -19,13 +19,10 @@ fn first_between(entries: &[Option<Answer>], low: usize, high: usize) -> Option<
 {
     let ranks = &entries[low..high];
     let i = least(ranks)?;
-    match ranks[i] {
-        Some(answer) => Some(RankEntry {
-            answer,
-            rank: low + i,
-        }),
-        None => None,
-    }
+    ranks[i].map(|answer| RankEntry {
+        answer,
+        rank: low + i,
+    })
 }
 
 impl Front {
@@ -36,7 +33,7 @@ impl Front {
         if level >= LEVELS {
             return None;
         }
-        let directions = self.directions as usize;
+        let directions = usize::from(self.directions);
         let low = directions * level;
         first_between(&self.entries, low, low + directions)
     }

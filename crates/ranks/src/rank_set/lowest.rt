@@ -48,12 +48,8 @@ impl RankSet {
         if self.count() as usize <= m {
             return self;
         }
-        let mut rest = self;
         let mut chosen = RankSet::empty();
-        for _taken in 0..m {
-            let Some(rank) = rest.pop_first() else {
-                return chosen;
-            };
+        for rank in self.members().take(m) {
             chosen.insert(rank);
         }
         chosen

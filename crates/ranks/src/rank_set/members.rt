@@ -41,7 +41,7 @@ impl RankSet {
     }
 }
 
-// Two sets are equal where they have the same ranks.
+// Two sets are equal where they have the same ranks; a derived `==` would speak of the words alone.
 impl PartialEq for RankSet {
     ghost eq = { words_equal };
 
@@ -51,6 +51,6 @@ impl PartialEq for RankSet {
         ensures value { result ≡ words_equal self.now other.now }
         ensures same { Decides result (ranks self.now ≡ ranks other.now) }
     {
-        self.low == other.low && self.high == other.high
+        (self.low, self.high) == (other.low, other.high)
     }
 }

@@ -17,13 +17,10 @@ fn open_by<P: Policy>(rest: Rest, policy: &P, table: &mut [Row]) -> Result<Round
     requires { OwnRest rest table.old }
     ensures { OpensOr (P.Policy.chosen policy.now) rest table.old result table.new }
 {
-    match rest.open_in(policy, table) {
-        Ok(round) => Ok(round),
-        Err(refused) => Err(refused.0),
-    }
+    Ok(rest.open_in(policy, table)?)
 }
 
-// The same under a cap or none.
+// The same under a cap or none: a cap of the policy is a policy of another type, so both ways are written out.
 fn open_under<P: Policy + Drop>(
     rest: Rest,
     cap: Option<Most>,

@@ -1,5 +1,7 @@
 // What an item of a record makes of what is due.
-ghost use Rattle.std.specs.Prelude.{◌≡◌, List, Decides};
+ghost use Rattle.std.specs.Prelude.{◌≡◌, List, T, Decides, Ok, Err};
+ghost use Rattle.order.specs.Answers.{allowed};
+ghost use Rattle.refusal.specs.declared.Refusal.TheVariants.{ReadingOutOfRange};
 ghost use Rattle.record.specs.declared.item.Item.TheVariants as item;
 ghost use Rattle.table.specs.declared.rows.Row.{Row as RowValue};
 ghost use Rattle.search.specs.Calls.{OwnRest};
@@ -19,36 +21,15 @@ use record::item::{Item, Mark, Named};
 use refusal::Refusal;
 use table::rows::Row;
 
-// The search at rest that is due.
-fn rest_of(due: Due) -> Rest
-    requires { IsRest due }
-    ensures { due ≡ state.Rest result }
+// Whether an answer is one that a search takes; a reading out of range is refused where its mark stands.
+fn check_reading(answer: Answer, place: usize) -> Result<(), RefusedAt>
+    ensures { elim result [ Ok _ ↦ T (allowed answer) | Err refused ↦ (T (allowed answer) → ⊥) × (refused ≡ record { why = ReadingOutOfRange; place = place }) ] }
 {
-    match due {
-        Due::Rest(rest) => rest,
-        _ => unreachable(),
-    }
-}
-
-// The search at rest and the cap that are due.
-fn capped_of(due: Due) -> (Rest, Most)
-    requires { IsCapped due }
-    ensures { due ≡ state.Capped result.0 result.1 }
-{
-    match due {
-        Due::Capped(rest, most) => (rest, most),
-        _ => unreachable(),
-    }
-}
-
-// The round whose points are due, and the next of them.
-fn points_of(due: Due) -> (Round, usize)
-    requires { IsPoints due }
-    ensures { due ≡ state.Points result.0 result.1 }
-{
-    match due {
-        Due::Points(round, p) => (round, p),
-        _ => unreachable(),
+    if answer.is_allowed() {
+        Ok(())
+    } else {
+        let why = Refusal::ReadingOutOfRange;
+        Err(RefusedAt { why, place })
     }
 }
 
@@ -63,10 +44,7 @@ fn answer_middle(
     ensures turns { Turns place (state.Centre n finest) table.old (item.Answer answer) result table.new }
     ensures own { OwnNext result table.new }
 {
-    if !answer.is_allowed() {
-        let why = Refusal::ReadingOutOfRange;
-        return Err(RefusedAt { why, place });
-    }
+    check_reading(answer, place)?;
     match begin(n, finest, table, answer) {
         Ok(rest) => Ok(Due::Rest(rest)),
         Err(why) => Err(RefusedAt { why, place: 0 }),
@@ -77,7 +55,7 @@ fn answer_middle(
 fn set_cap(rest: Rest, number: u8, place: usize) -> Result<Due, RefusedAt>
     ensures { (table : List RowValue) → OwnRest rest table → Turns place (state.Rest rest) table (item.Cap number) result table × OwnNext result table }
 {
-    match Most::new(number) {
+    match Most::try_from(number) {
         Ok(most) => Ok(Due::Capped(rest, most)),
         Err(why) => Err(RefusedAt { why, place }),
     }
@@ -113,10 +91,7 @@ fn answer_point(
     ensures turns { Turns place (state.Points round p) table.old (item.Answer answer) result table.new }
     ensures own { OwnNext result table.new }
 {
-    if !answer.is_allowed() {
-        let why = Refusal::ReadingOutOfRange;
-        return Err(RefusedAt { why, place });
-    }
+    check_reading(answer, place)?;
     note(round.boxes + p, answer, table);
     if p + 1 < round.points {
         Ok(Due::Points(round, p + 1))
@@ -134,16 +109,16 @@ pub(crate) fn turn(due: Due, item: Item, table: &mut [Row], place: usize) -> Res
     match (due, item) {
         (Due::Start, Item::Begin(n, finest)) => Ok(Due::Centre(n, finest)),
         (Due::Centre(n, finest), Item::Answer(a)) => answer_middle(n, finest, a, table, place),
-        (rest @ Due::Rest(_), Item::Cap(m)) => set_cap(rest_of(rest), m, place),
-        (rest @ Due::Rest(_), Item::Round(by)) => open_round(rest_of(rest), None, by, table, place),
-        (capped @ Due::Capped(..), Item::Round(by)) => {
-            let (rest, most) = capped_of(capped);
-            open_round(rest, Some(most), by, table, place)
-        }
-        (points @ Due::Points(..), Item::Answer(a)) => {
-            let (round, p) = points_of(points);
-            answer_point(round, p, a, table, place)
-        }
+        (Due::Rest(rest), Item::Cap(m)) => set_cap(rest, m, place),
+        (Due::Rest(rest), Item::Round(by)) => open_round(rest, None, by, table, place),
+        (Due::Capped(rest, most), Item::Round(by)) => open_round(
+            rest,
+            Some(most),
+            by,
+            table,
+            place,
+        ),
+        (Due::Points(round, p), Item::Answer(a)) => answer_point(round, p, a, table, place),
         _ => Err(RefusedAt {
             why: Refusal::MarkOutOfTurn,
             place,

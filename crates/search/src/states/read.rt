@@ -1,4 +1,5 @@
-// What can be read of a search at rest and of a round.
+// What can be read of a search at rest and of a round: two types, each with facts of its own.
+// A part that both share would be read through a third name, so each has its readers.
 ghost use Rattle.std.specs.Prelude.{◌≡◌};
 
 use super::{Rest, Round};

@@ -2,5 +2,5 @@
 use Rattle.search.proofs.Parts.{CutTo}
 use Rattle.search.proofs.cutting.cut_along.Given as goal
 
-abbrev pub invariant-loop-i : goal.invariant-loop-i
-invariant-loop-i l = CutTo l.initial.table l.j l.sides l.i l.table l.left
+abbrev pub invariant-loop-side : goal.invariant-loop-side
+invariant-loop-side l = CutTo l.initial.table l.j l.sides l.side-index l.table l.left

@@ -1,8 +1,7 @@
--- The cells written, and the rest as it was.
-use Rattle.std.proofs.Common.{◌≡◌, ℕ, ◌<◌, ◌≤◌, get_or}
-use Rattle.search.specs.Points.{pick, Coordinate}
+-- The cell's numbers that are written so far.
+use Rattle.std.proofs.Common.{◌≡◌, ℕ, ◌<◌, length, slice_index}
+use Rattle.search.specs.Points.{Coordinate}
 use Rattle.search.proofs.locate.write_cell.Given as goal
 
 abbrev pub invariant-loop-e : goal.invariant-loop-e
-invariant-loop-e l = ((k : ℕ) → k < l.e → Coordinate l.row l.d (pick l.high) k (get_or l.cells k 0))
-    × ((k : ℕ) → l.e ≤ k → get_or l.cells k 0 ≡ get_or l.initial.cells k 0)
+invariant-loop-e l = (length l.cell-items ≡ l.n) × ((k : ℕ) → k < l.e → Coordinate l.row l.d l.side k (slice_index l.cell-items k))

@@ -1,13 +1,14 @@
--- One box more.
-use Rattle.std.proofs.Common.{◌≡◌, length, arith}
-use Rattle.table.proofs.Ends.{readings_next}
+-- The ends once all rows are seen.
+use Rattle.std.proofs.Common.{length, None, rules, subst, sym}
+use Rattle.std.proofs.lemmas.Iterator.{YieldsList-from_slice}
+use Rattle.std.proofs.lemmas.Iterator.Consumers.{fold_from_yields_List}
+use Rattle.table.specs.Fronts.{ReadingsOf}
+use Rattle.table.proofs.Ends.{all_seen, seen}
 use Rattle.table.proofs.fronts.readings_of.Goals as goal
-
-pub loop-j-preserved : goal.loop-j-preserved
-loop-j-preserved c =
-    rw c.widened-ends.ensures (readings_next c.args.boxes.now c.loop-j.j c.loop-j.ends c.shown.result c.shown.ensures c.loop-j.invariant)
 
 pub returns : goal.returns
 returns c =
-    let end : c.loop-j.j ≡ length c.args.boxes.now = omega arith in
-    rw end at c.loop-j.invariant
+    let boxes = c.args.boxes.now in
+    subst (ReadingsOf (length boxes) boxes)
+    (sym (fold_from_yields_List _ seen None _ c.fold.ensures.ran (YieldsList-from_slice boxes (cc)) (λ a x b q k. search rules)))
+    (all_seen boxes)

@@ -2,5 +2,5 @@
 use Rattle.tune.specs.Sides.{AllWithin}
 use Rattle.tune.proofs.guarantee.longest_side.Given as goal
 
-abbrev pub invariant-loop-j : goal.invariant-loop-j
-invariant-loop-j l = AllWithin l.j l.boxes l.longest
+abbrev pub invariant-loop-row : goal.invariant-loop-row
+invariant-loop-row l = AllWithin l.row-index l.boxes l.longest

@@ -1,5 +1,5 @@
 -- Three thirds of a side.
-use Rattle.std.proofs.Common.{◌≡◌, ℕ, ◌+◌, ◌*◌, sym, refl, ap, ◌∙◌, inl, inr, ⊎_elim, arith}
+use Rattle.std.proofs.Common.{◌≡◌, ℕ, ◌+◌, ◌*◌, inl, inr, ⊎_elim, arith}
 use Rattle.std.proofs.lemmas.Bool.{cases_lt}
 use Rattle.grid.specs.Grid.{cells_at}
 use Rattle.grid.proofs.Lengths.{cells_at_third, third}
@@ -14,31 +14,20 @@ invariant_of-result-2 c = let s = c.args.self.now in record { form = third s.fir
 pub invariant_of-result-3 : goal.invariant_of-result-3
 invariant_of-result-3 c = let s = c.args.self.now in record { form = third s.first s.level 2 s.form c.requires (omega arith) (omega arith) }
 
-pub returns : goal.returns
-returns c =
-    let first : ℕ = c.args.self.now.first in
+pub returns-clause-partition : goal.returns-clause-partition
+returns-clause-partition c =
+    let t = c.args.self.now.level in
     let s : ℕ = c.cells_at-third.result in
-    let is : s ≡ cells_at (c.args.self.now.level + 1) = c.cells_at-third.ensures.value in
-    let whole : cells_at c.args.self.now.level ≡ 3 * s = cells_at_third c.args.self.now.level c.requires ∙ ap (λ (n : ℕ). 3 * n) (sym is) in
+    let whole : cells_at t ≡ 3 * s = omega (arith, cells_at_third t c.requires) in
     record {
-      thirds = record {
-        low_first = refl;
-        middle_first = omega arith;
-        high_first = omega arith;
-        low_level = refl;
-        middle_level = refl;
-        high_level = refl;
-      };
-      partition = record {
-        covers = λ x h. ⊎_elim (λ l. inl (h.0, omega arith)) (λ l. inr (⊎_elim (λ m. inl (omega arith, omega arith)) (λ m. inr (omega arith, omega arith)) (cases_lt x (first + 2 * s)))) (cases_lt x (first + s));
-        inside = λ x. ⊎_elim (λ h. (omega arith, omega arith)) (⊎_elim (λ h. (omega arith, omega arith)) (λ h. (omega arith, omega arith)));
-        low_middle = λ x p q. omega arith;
-        low_high = λ x p q. omega arith;
-        middle_high = λ x p q. omega arith;
-      };
-      centred = record {
-        kept = omega arith;
-        moved_down = omega arith;
-        moved_up = omega arith;
-      };
+      covers = λ x h. ⊎_elim (λ l. inl (h.0, omega arith)) (λ l. inr (⊎_elim (λ m. inl (omega arith, omega arith)) (λ m. inr (omega arith, omega arith)) (cases_lt x (c.args.self.now.first + 2 * s)))) (cases_lt x (c.args.self.now.first + s));
+      inside = λ x. ⊎_elim (λ h. (omega arith, omega arith)) (⊎_elim (λ h. (omega arith, omega arith)) (λ h. (omega arith, omega arith)));
+      low_middle = λ x p q. omega arith;
+      low_high = λ x p q. omega arith;
+      middle_high = λ x p q. omega arith;
     }
+
+pub returns-clause-centred : goal.returns-clause-centred
+returns-clause-centred c =
+    let whole = cells_at_third c.args.self.now.level c.requires in
+    record { kept = omega arith; moved_down = omega arith; moved_up = omega arith }

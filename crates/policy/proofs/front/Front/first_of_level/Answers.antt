@@ -12,10 +12,11 @@ returns-then-level-ge-LEVELS c = none_past c.args.self.now c.args.level c.if-lev
 pub returns : goal.returns
 returns c =
     let f = c.args.self.now in let t = c.args.level in
-    first_among_same rank_before _ _ (of_level f t) (between f t) _ c.first_between.ensures
+    first_among_same rank_before _ _ (of_level f t) (between f t) _ (rw c.from-directions.ensures at c.first_between.ensures)
 
 pub first_between-requires : goal.first_between-requires
 first_between-requires c =
     let f = c.args.self.now in
-    let near : f.directions * c.args.level ≤ 6 * 18 = mul-le f.directions c.args.level 6 18 f.few (omega arith) in
+    let n = c.from-directions.result in
+    let near : n * c.args.level ≤ 6 * 18 = mul-le n c.args.level 6 18 (omega (arith, f.few)) (omega arith) in
     (omega arith, omega (arith, near, f.few, f.long))

@@ -1,20 +1,13 @@
 -- The digits of both words.
-use Rattle.std.proofs.Common.{arith, rules}
+use Rattle.std.proofs.Common.{arith}
 use lib.Count.{ones-le}
 use Rattle.ranks.specs.Ranks.{ranks}
 use Rattle.ranks.proofs.Words.{count_words}
 use Rattle.ranks.proofs.rank_set.RankSet.count.Goals as goal
 
-pub overflow_add-result : goal.overflow_add-result
-overflow_add-result c =
-    let s = c.args.self.now in
-    search (rules, ones-le 64 s.low s.whole, ones-le 50 s.high s.short)
-
-pub returns : goal.returns
+pub returns-clause-value : goal.returns-clause-value
 unfolding ranks
-returns c =
-    let s = c.args.self.now in
-    record {
-      value = count_words s.high s.low s.whole s.short;
-      bound = omega (arith, ones-le 64 s.low s.whole, ones-le 50 s.high s.short);
-    }
+returns-clause-value c = let s = c.args.self.now in count_words s.high s.low s.whole s.short
+
+pub returns-clause-bound : goal.returns-clause-bound
+returns-clause-bound c = let s = c.args.self.now in omega (arith, ones-le 64 s.low s.whole, ones-le 50 s.high s.short)

@@ -19,20 +19,14 @@ invariant_of-self-then-rank-lt-RANKS c =
     let small : 2 ^ r < 2 ^ 50 = pow_below r 50 (omega arith) in
     record { whole = s.whole; short = or_lt 50 s.high ((1 * 2 ^ r) % 2 ^ 64) s.short (omega (arith, one_shl r 64 (omega arith), small)) }
 
-pub returns-then-rank-lt64 : goal.returns-then-rank-lt64
+pub returns-then-rank-lt64-clause-put : goal.returns-then-rank-lt64-clause-put
 unfolding ranks
-returns-then-rank-lt64 c =
+returns-then-rank-lt64-clause-put c _ =
     let s = c.args.self.now in
-    record {
-      put = λ _. fun_ext (put_low s.high s.low s.whole c.args.rank c.if-rank-lt64.true);
-      same = λ g. absurd (omega arith);
-    }
+    fun_ext (put_low s.high s.low s.whole c.args.rank c.if-rank-lt64.true)
 
-pub returns-then-rank-lt-RANKS : goal.returns-then-rank-lt-RANKS
+pub returns-then-rank-lt-RANKS-clause-put : goal.returns-then-rank-lt-RANKS-clause-put
 unfolding ranks
-returns-then-rank-lt-RANKS c =
+returns-then-rank-lt-RANKS-clause-put c _ =
     let s = c.args.self.now in
-    record {
-      put = λ _. fun_ext (put_high s.high s.low s.whole c.args.rank c.if-rank-lt64.false c.if-rank-lt-RANKS.true);
-      same = λ g. absurd (omega arith);
-    }
+    fun_ext (put_high s.high s.low s.whole c.args.rank c.if-rank-lt64.false c.if-rank-lt-RANKS.true)

@@ -1,10 +1,10 @@
--- The lowest ranks have moved from `rest` to `chosen`.
-use Rattle.std.proofs.Common.{◌≡◌}
+-- The lowest ranks are in `chosen`, and the others are still to come.
+use Rattle.std.proofs.Common.{◌≡◌, ◌+◌, ℕ}
 use Rattle.ranks.specs.Ranks.{ranks, lowest_of}
 use Rattle.ranks.proofs.Lowest.{after}
 use Rattle.ranks.proofs.rank_set.RankSet.lowest.Given as goal
 
-abbrev pub invariant-loop-taken : goal.invariant-loop-taken
-invariant-loop-taken l =
-    let p = ranks l.initial.rest in
-    (ranks l.chosen ≡ lowest_of l._taken p) × (ranks l.rest ≡ after p l._taken)
+abbrev pub invariant-loop-rank : goal.invariant-loop-rank
+invariant-loop-rank l =
+    let p = ranks l.fn.self in
+    (i : ℕ) × (i + l.rank-iterator.n ≡ l.m) × (ranks l.chosen ≡ lowest_of i p) × (ranks l.rank-iterator.iter.rest ≡ after p i)

@@ -6,31 +6,21 @@ use Rattle.ranks.specs.Ranks.{ranks}
 use Rattle.ranks.proofs.Words.{no_words, rest_low, rest_high}
 use Rattle.ranks.proofs.rank_set.RankSet.pop_first.Goals as goal
 
-pub returns-then-self-ne0 : goal.returns-then-self-ne0
+pub returns-then-self-ne0-clause-rest : goal.returns-then-self-ne0-clause-rest
 unfolding ranks
-returns-then-self-ne0 c =
+returns-then-self-ne0-clause-rest c =
     let s = c.args.self.now in
-    let w = c.in_ok-rank.ensures in
-    record {
-      lowest = w;
-      rest = fun_ext (rest_low s.high s.low s.whole c.if-self-ne0.true c.in_ok-rank.rank w.0);
-    }
+    fun_ext (rest_low s.high s.low s.whole c.if-self-ne0.true c.in_ok-rank.rank c.in_ok-rank.ensures.0)
 
-pub returns-then-self-ne0-2 : goal.returns-then-self-ne0-2
+pub returns-then-self-ne0-2-clause-rest : goal.returns-then-self-ne0-2-clause-rest
 unfolding ranks
-returns-then-self-ne0-2 c =
+returns-then-self-ne0-2-clause-rest c =
     let s = c.args.self.now in
-    let w = c.in_ok-rank.ensures in
-    record {
-      lowest = w;
-      rest = fun_ext (rest_high s.high s.low s.whole s.short c.if-self-ne0.false c.if-self-ne0-2.true c.in_ok-rank.rank w.0);
-    }
+    fun_ext (rest_high s.high s.low s.whole s.short c.if-self-ne0.false c.if-self-ne0-2.true c.in_ok-rank.rank c.in_ok-rank.ensures.0)
 
-pub returns-else-self-ne0-2 : goal.returns-else-self-ne0-2
+pub returns-else-self-ne0-2-clause-rest : goal.returns-else-self-ne0-2-clause-rest
 unfolding ranks
-returns-else-self-ne0-2 c =
+returns-else-self-ne0-2-clause-rest c =
     let s = c.args.self.now in
-    let w = c.in_ok-rank.ensures in
-    let k = c.in_ok-rank.rank in
     let empty = no_words s.high s.low c.if-self-ne0-2.false c.if-self-ne0.false in
-    absurd (both_ways _ (ap (λ p. p k) empty) w.0.has)
+    absurd (both_ways _ (ap (λ p. p c.in_ok-rank.rank) empty) c.in_ok-rank.ensures.0.has)

@@ -18,7 +18,7 @@ returns-in-Rest-Round c =
     let opened = c.open_round in
     record {
       turns = subst₂ (λ (d : Due) (i : Item). Turns c.args.place d c.args.table.now i opened.result opened.new.table)
-          (sym c.rest_of-in-Rest-Round.ensures) (sym c.in-Rest-Round.is-1) (opened.ensures.turns _ plain);
+          (sym c.in-Rest-Round.is-0) (sym c.in-Rest-Round.is-1) (opened.ensures.turns _ plain);
       own = opened.ensures.own;
     }
 
@@ -27,6 +27,6 @@ returns-in-Capped-Round c =
     let opened = c.open_round-in-Capped-Round in
     record {
       turns = subst₂ (λ (d : Due) (i : Item). Turns c.args.place d c.args.table.now i opened.result opened.new.table)
-          (sym c.capped_of.ensures) (sym c.in-Capped-Round.is-1) (opened.ensures.turns _ with_cap);
+          (sym c.in-Capped-Round.is-0) (sym c.in-Capped-Round.is-1) (opened.ensures.turns _ with_cap);
       own = opened.ensures.own;
     }

@@ -1,5 +1,5 @@
 -- One box more.
-use Rattle.std.proofs.Common.{◌≡◌, length, None, sym, refl, ap, ◌∙◌, arith, length-set}
+use Rattle.std.proofs.Common.{length, None, sym, refl, ap, ◌∙◌, arith, length-set}
 use lib.ListN.{get_or-replicate}
 use Rattle.table.proofs.FirstBoxes.{rank_bound, firsts_none, firsts_put, firsts_other}
 use Rattle.table.proofs.shape.Shape.firsts.Goals as goal
@@ -8,23 +8,13 @@ use Rattle.table.proofs.shape.Shape.firsts.Goals.{then-rank-below+in-Some, then-
 pub loop-row-init : goal.loop-row-init
 loop-row-init c = (refl, λ r h. firsts_none _ _ _ r _ (get_or-replicate 114 r None None h))
 
-pub bounds-firsts-rank : goal.bounds-firsts-rank
-bounds-firsts-rank c =
-    let s = c.args.self.now in
-    rank_bound s.n s.finest _ s.few s.fine c.if-rank-below.true
-
-pub bounds-firsts-rank-in-Some : goal.bounds-firsts-rank-in-Some
-bounds-firsts-rank-in-Some c =
-    let s = c.args.self.now in
-    rank_bound s.n s.finest _ s.few s.fine c.if-rank-below.true
-
 pub loop-row-preserved : goal.loop-row-preserved
 loop-row-preserved c =
     let s = c.args.self.now in
     let table = c.args.boxes.now in let i = c.loop-row.row in
     elim c.if-rank-below.branch [
       | then-rank-below+in-Some w ↦
-          let cut = w.if-rank-below.true in
+          let cut = rw c.from-2.ensures at (rw c.from.ensures at w.if-rank-below.true) in
           let low = rank_bound s.n s.finest _ s.few s.fine cut in (
             ap length w.firsts-is ∙ simp length-set c.loop-row.invariant.0,
             λ r h. rw w.firsts-is (firsts_put s.n s.finest table i c.loop-row.firsts c.rank_of-rank.result
@@ -38,11 +28,6 @@ loop-row-preserved c =
       | else-rank-below w ↦ (
         ap length w.firsts-is ∙ c.loop-row.invariant.0,
         λ r h. rw w.firsts-is (firsts_other s.n s.finest table i r _
-            (λ e l a shows. omega (arith, c.rank_of-rank.ensures, w.if-rank-below.false)) (c.loop-row.invariant.1 r h)),
+            (λ e l a shows. omega (arith, c.rank_of-rank.ensures, rw c.from-2.ensures at (rw c.from.ensures at w.if-rank-below.false))) (c.loop-row.invariant.1 r h)),
       )
     ]
-
-pub returns : goal.returns
-returns c =
-    let end : c.loop-row.row ≡ length c.args.boxes.now = omega arith in
-    λ r h. rw end at (c.loop-row.invariant.1 r h)

@@ -4,5 +4,5 @@ use Rattle.table.specs.Rows.{level_of}
 use Rattle.table.specs.Sums.{sum}
 use Rattle.table.proofs.shape.Shape.rank_of.Given as goal
 
-abbrev pub invariant-loop-d : goal.invariant-loop-d
-invariant-loop-d l = (l.rank ≡ sum l.d (level_of l.row)) × (l.rank ≤ 255 * l.d)
+abbrev pub invariant-loop-span : goal.invariant-loop-span
+invariant-loop-span l = (l.rank ≡ sum l.span-index (level_of l.row)) × (l.rank ≤ 255 * l.span-index)
