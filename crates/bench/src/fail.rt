@@ -29,6 +29,7 @@ impl fmt::Display for Fail {
     }
 }
 
+// Each program says by itself how it ends where memory runs out: an impl is for one type of one crate.
 impl From<AllocError> for Fail {
     fn from(_e: AllocError) -> Fail {
         Fail::Memory

@@ -17,6 +17,7 @@ pub trait Play {
 // Plays rounds up to so many boxes.
 pub fn play_up_to<P: Play>(player: &mut P, rest: P::Rest, boxes: usize) -> Result<P::Rest, Fail> {
     let mut rest = rest;
+    // Each round adds boxes, so as many rounds are enough; as a `while` what makes it end is not found.
     for _round in 0..boxes {
         if P::boxes(&rest) >= boxes {
             break;

@@ -11,6 +11,7 @@ pub enum Halt {
     Memory,
 }
 
+// Each program says by itself how it ends where memory runs out: an impl is for one type of one crate.
 impl From<AllocError> for Halt {
     fn from(_e: AllocError) -> Halt {
         Halt::Memory

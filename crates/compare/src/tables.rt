@@ -81,11 +81,7 @@ fn any_line(draw: &mut Draw) -> Line {
 
 // The cells of a side of a level.
 pub fn cells(level: u8) -> u32 {
-    let mut cells: u32 = 1_162_261_467;
-    for _ in 0..level {
-        cells /= 3;
-    }
-    cells
+    (0..level).fold(1_162_261_467, |cells: u32, _| cells / 3)
 }
 
 // Changes one number of a line, mostly by little.

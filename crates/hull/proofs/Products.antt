@@ -132,3 +132,7 @@ compared_fits x y low high some most =
     let m = product_le 3000000001 1162261467 x (unsigned_abs y) (omega (arith, ints)) (omega (arith, ints)) in
     let f : FitsSigned w64 (x *ℤ pos (unsigned_abs y)) = omega (arith, ints) in
     subst (λ (z : ℤ). FitsSigned w64 (x *ℤ z)) (as_pos y some) f
+
+-- a number of such a slope fits 64 bits
+pub compared_number : (x : ℤ) → neg_ℤ (pos 3000000001) ≤ℤ x → x ≤ℤ pos 3000000001 → FitsSigned w64 x
+compared_number x low high = omega (arith, ints)

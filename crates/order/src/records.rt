@@ -1,6 +1,7 @@
 // Boxes, directions and ranks, each by an answer and then by the lower number.
 ghost use Rattle.std.specs.Prelude.{◌≡◌, is_none};
-ghost use Rattle.order.specs.Answers.{earlier_answer};
+ghost use Rattle.order.specs.Answers.{answer_before, earlier_answer, entry_before};
+ghost use Rattle.order.specs.Records.{candidate_before, direction_before, rank_before};
 ghost use Rattle.std.proofs.Common.{rules};
 
 use crate::answer::Answer;
@@ -43,6 +44,10 @@ impl Ordered for Answer {
 
     ghost key = { λ a. a };
 
+    ghost before = { answer_before };
+
+    ghost by_key = { Prim.search rules };
+
     ghost total = { Prim.search rules };
 
     fn key(&self) -> Answer {
@@ -56,6 +61,10 @@ impl Ordered for Option<Answer> {
 
     ghost key = { λ e. (is_none e, e) };
 
+    ghost before = { entry_before };
+
+    ghost by_key = { Prim.search rules };
+
     ghost total = { Prim.search rules };
 
     fn key(&self) -> (bool, Option<Answer>) {
@@ -63,10 +72,16 @@ impl Ordered for Option<Answer> {
     }
 }
 
+// A candidate, a direction and a rank's entry are kinds of their own, which no call may take for one another.
+// A derived order would be no shorter: an impl would say its key and its order all the same.
 impl Ordered for Candidate {
     type Key = (Answer, usize);
 
     ghost key = { λ c. (c.answer, c.row) };
+
+    ghost before = { candidate_before };
+
+    ghost by_key = { Prim.search rules };
 
     ghost total = { Prim.search rules };
 
@@ -80,6 +95,10 @@ impl Ordered for Direction {
 
     ghost key = { λ d. (d.w, d.number) };
 
+    ghost before = { direction_before };
+
+    ghost by_key = { Prim.search rules };
+
     ghost total = { Prim.search rules };
 
     fn key(&self) -> (Answer, usize) {
@@ -91,6 +110,10 @@ impl Ordered for RankEntry {
     type Key = (Answer, usize);
 
     ghost key = { λ e. (e.answer, e.rank) };
+
+    ghost before = { rank_before };
+
+    ghost by_key = { Prim.search rules };
 
     ghost total = { Prim.search rules };
 

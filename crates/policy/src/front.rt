@@ -9,6 +9,7 @@ pub mod build;
 pub mod entries;
 pub mod levels;
 
+// An array by rank, since there is no heap below `report`.
 // For each rank an entry: empty, or the answer of the first box of that rank that can be cut.
 // Beside them the least and the greatest reading of all boxes, or none where no box has a reading.
 #[derive(Drop)]

@@ -18,6 +18,7 @@ pub trait Recordable: Policy {
 
     const BODY: usize;
 
+    // The mark and the length with their promises: a constant of a trait has no clause, so each impl gives both.
     fn mark_bytes() -> [u8; 2]
         ensures { result ≡ mark };
 

@@ -34,11 +34,7 @@ const STEEP: Slope = Slope {
 
 // The cells of a side of a level.
 fn length(level: usize) -> i128 {
-    let mut cells: i128 = 1;
-    for _ in level..MOST {
-        cells = cells.wrapping_mul(3);
-    }
-    cells
+    (level..MOST).fold(1, |cells: i128, _| cells.wrapping_mul(3))
 }
 
 impl Front {

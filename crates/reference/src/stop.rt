@@ -74,6 +74,7 @@ impl From<RefusedAt> for Stop<RefusedAt> {
     }
 }
 
+// Each program says by itself how it ends where memory runs out: an impl is for one type of one crate.
 impl<C> From<AllocError> for Stop<C> {
     fn from(_e: AllocError) -> Stop<C> {
         Stop::Memory

@@ -37,6 +37,15 @@ impl From<AllocError> for NoText {
     }
 }
 
+// What is written to a `String` fails for want of memory alone.
+impl From<fmt::Error> for NoText {
+    ghost from_gives = { λ _ r. r ≡ Memory };
+
+    fn from(_error: fmt::Error) -> NoText {
+        NoText::Memory
+    }
+}
+
 // The sides of a box in its first n directions, by rising direction.
 #[derive(Clone, Copy)]
 struct Sides {
@@ -61,6 +70,7 @@ impl fmt::Display for Sides {
     }
 }
 
+// Each of these says by `Adds` what it adds, which is another text in each.
 // Adds the first line: directions, finest level, closed rounds, boxes.
 fn push_head(out: &mut String, rest: &Rest) -> Result<(), AllocError>
     ensures { Adds out.old result (head_text rest.now) out.new }
@@ -122,7 +132,7 @@ pub fn search_text(heap: Global, rest: &Rest, table: &[Row]) -> Result<String, N
     Ok(out)
 }
 
-// A refusal by its number and its place.
+// A refusal by its number and its place. Any number is taken: a cause would ask more of the caller.
 pub fn refusal_text(heap: Global, number: u8, place: usize) -> Result<String, AllocError>
     ensures { IfOk result (λ s. string_bytes s ≡ refusal_text number place) }
 {

@@ -1,12 +1,12 @@
 -- The table after an answer: one row has it, and the table is still the round's own.
-use Rattle.std.proofs.Common.{◌≡◌, ℕ, ◌+◌, ◌<◌, ◌≢◌, List, length, ap, ◌∙◌, arith, length-set, get_or-set_other, get_or-set_same}
+use Rattle.std.proofs.lemmas.Grind.{common_steps}
+use Rattle.std.proofs.Common.{◌≡◌, ℕ, ◌+◌, ◌<◌, ◌≢◌, List, ap, ◌∙◌, arith, get_or-set_other, get_or-set_same}
 use Rattle.order.specs.declared.answer.Answer.{Answer}
 use Rattle.table.specs.Rows.{no_row, row_at}
 use Rattle.table.specs.declared.rows.Entry.TheVariants.{Answered}
 use Rattle.table.specs.declared.rows.Row.{Row}
 use Rattle.search.specs.Calls.{OwnRound}
 use Rattle.search.specs.declared.states.Round.{Round}
-use Rattle.search.proofs.Firsts.{box_same, own_same}
 use Rattle.search.proofs.Outcomes.{AnsweredBy}
 
 module _ (round : Round) (table : List Row) (p : ℕ) (a : Answer) (after : List Row) (k : AnsweredBy round table p a after) where
@@ -20,13 +20,5 @@ module _ (round : Round) (table : List Row) (p : ℕ) (a : Answer) (after : List
   pub rows : (j : ℕ) → j < round.boxes → row_at after j ≡ row_at table j
   rows j l = row_other j (omega arith)
 
-  same_rows : length after ≡ length table
-  same_rows = ap length k.after_is ∙ length-set table (round.boxes + p) _
-
   pub own_answered : OwnRound round after
-  own_answered = record {
-    own = own_same round.shape.n round.shape.finest round.boxes table after rows (omega (arith, same_rows, k.own.rows)) k.own.own;
-    rows = omega (arith, same_rows, k.own.rows);
-    boxes = λ r t. let box = k.own.boxes r t in
-        (box.0, box_same round.shape.n round.shape.finest round.boxes table after rows r box.0 box.1);
-  }
+  own_answered = grind (arith, common_steps)

@@ -1,6 +1,6 @@
 -- One item more after those with which the record of a run begins.
-use Rattle.std.proofs.Common.{◌≡◌, ℕ, ◌+◌, List, [], ◌∷◌, ◌++◌, map, length, Some, None, Ok, sym, refl, ap, ◌∙◌, subst₂, append_assoc, arith, length-append}
-use Rattle.std.proofs.lemmas.List.{map-append}
+use Rattle.std.proofs.lemmas.Grind.{common_steps}
+use Rattle.std.proofs.Common.{◌≡◌, ℕ, ◌+◌, List, [], ◌∷◌, ◌++◌, length, Some, None, Ok, sym, refl, ap, ◌∙◌, subst₂, append_assoc, arith, length-append}
 use Rattle.order.specs.declared.answer.Answer.{Answer}
 use Rattle.record.specs.declared.item.Item.{Item}
 use Rattle.record.specs.declared.item.Item.TheVariants as item
@@ -8,7 +8,7 @@ use Rattle.table.specs.declared.rows.Row.{Row}
 use Rattle.search.specs.Calls.{Answers}
 use Rattle.search.specs.Replays.{Starts}
 use Rattle.search.specs.Replays.Starts.{capped, nothing, playing, rested, shaped}
-use Rattle.search.specs.Tales.{Plays, Tale, Told, cap_items, items_of, round_items}
+use Rattle.search.specs.Tales.{Plays, Tale, Told, items_of, round_items}
 use Rattle.search.specs.Tales.AnsweredInOrder.{more, none}
 use Rattle.search.specs.Tales.Tale.{◌then◌}
 use Rattle.search.specs.Turns.{Turn}
@@ -27,11 +27,7 @@ pub grown_length : (l : List Answer) (a : Answer) → length (l ++ a ∷ []) ≡
 grown_length l a = length-append l (a ∷ [])
 
 grown_items : (xs : List Item) (told : Told) (a : Answer) → xs ++ round_items (grown told a) ≡ xs ++ round_items told ++ item.Answer a ∷ []
-grown_items xs told a =
-    ap (λ (l : List Item). xs ++ l)
-    (ap (λ (l : List Item). cap_items told.cap ++ item.Round told.by ∷ l) (map-append item.Answer told.answers (a ∷ []))
-    ∙ sym (append_assoc (cap_items told.cap) (item.Round told.by ∷ map item.Answer told.answers) (item.Answer a ∷ [])))
-    ∙ sym (append_assoc xs (round_items told) (item.Answer a ∷ []))
+grown_items xs told a = grind (arith, common_steps)
 
 again : {table : List Row} {xs ys : List Item} {d e : Due} {after : List Row} → xs ≡ ys → d ≡ e → Starts table xs d after → Starts table ys e after
 again {table} {after = after} p q h = subst₂ (λ x y. Starts table x y after) p q h

@@ -1,5 +1,6 @@
 -- The taken boxes of the chosen ranks below r are cut, and the others are as they were.
-use Rattle.std.proofs.Common.{◌≡◌, ℕ, zero, suc, ◌+◌, ◌-◌, ◌*◌, ◌/◌, ◌%◌, ◌<◌, ◌≤◌, Bool, cond, T, ◌≢◌, List, length, sym, refl, ap, ◌∙◌, subst, ap₂, inl, inr, add-one, arith}
+use Rattle.std.proofs.lemmas.Grind.{common_steps}
+use Rattle.std.proofs.Common.{◌≡◌, ℕ, zero, suc, ◌+◌, ◌-◌, ◌*◌, ◌/◌, ◌%◌, ◌<◌, ◌≤◌, Bool, cond, T, ◌≢◌, List, length, sym, ap, ◌∙◌, subst, ap₂, inl, inr, add-one, arith}
 use Rattle.std.proofs.lemmas.Bool.{cases_eq}
 use Rattle.grid.specs.Grid.{IsInterval}
 use Rattle.order.specs.declared.answer.Answer.{Answer}
@@ -33,24 +34,9 @@ pub record CutRanks (round : Round) (table : List Row) (r : ℕ) (after : List R
   pub above : (m : ℕ) → round.boxes + below round r ≤ m → row_at after m ≡ row_at table m
 
 given_same : (n : ℕ) (old new : Row) (d : ℕ) (s : Side) (f g : ℕ → Bool) → ((e : ℕ) → f e ≡ g e) → Given n old new d s f → Given n old new d s g
-given_same n old new d s f g h x = record {
-  own = x.own;
-  cut = λ e l ne t. x.cut e l ne (subst T (sym (h e)) t);
-  rest = λ e b ne t. x.rest e b ne (λ l u. t l (subst T (h e) u));
-  six = x.six;
-}
+given_same n old new d s f g h x = grind (arith, common_steps)
 
 module _ (round : Round) (table : List Row) (own : OwnRound round table) where
-  pub cut_start : CutRanks round table 0 table
-  cut_start = record {
-    same_length = refl;
-    entries = λ j. refl;
-    taken = λ q j h. absurd (omega arith);
-    given = λ p q j d s h. absurd (omega arith);
-    others = λ j h x. refl;
-    above = λ m h. refl;
-  }
-
   pub below_next : (r : ℕ) → T (ranks round.chosen r)
       → below round (r + 1) ≡ below round r + 2 * (round.shape.n - r % round.shape.n)
   below_next r h =

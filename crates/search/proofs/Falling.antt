@@ -1,6 +1,7 @@
 -- Closing a round lowers the sum of the rounds that the boxes can still take.
-use Rattle.std.proofs.Common.{◌≡◌, ℕ, zero, suc, ◌+◌, ◌-◌, ◌*◌, ◌/◌, ◌%◌, ◌<◌, ◌≤◌, Bool, true, false, cond, ◌&&◌, T, ltb, ◌≢◌, List, sym, refl, ap, ◌∙◌, subst, inl, inr, add-zero, add_assoc, mod-lt, add-mul, one-mul, div-add-mod', arith, ltb→lt, lt→ltb}
-use Rattle.std.proofs.lemmas.Bool.{cases_eq, cases_lt}
+use Rattle.std.proofs.lemmas.Grind.{common_steps}
+use Rattle.std.proofs.Common.{◌≡◌, ℕ, zero, suc, ◌+◌, ◌-◌, ◌*◌, ◌/◌, ◌%◌, ◌<◌, ◌≤◌, Bool, cond, ◌&&◌, T, ltb, ◌≢◌, List, sym, refl, ap, ◌∙◌, subst, inl, inr, add-zero, add_assoc, mod-lt, add-mul, one-mul, div-add-mod', arith, lt→ltb}
+use Rattle.std.proofs.lemmas.Bool.{cases_eq, cases_lt, le-ltb, lt-ltb}
 use Rattle.ranks.specs.Ranks.{ranks}
 use Rattle.table.specs.Rows.{rank, row_at}
 use Rattle.table.specs.Sums.{bit, sum}
@@ -16,12 +17,6 @@ use Rattle.search.proofs.Firsts.{first_unique}
 use Rattle.search.proofs.Levels.{given_rank, kept_rank, long_is}
 use Rattle.search.proofs.Places.{box_taken, chosen_bound, long_sides, near_row}
 use Rattle.search.proofs.Weights.{done, spread, v}
-
-lt_yes : (a b : ℕ) → a < b → ltb a b ≡ true
-lt_yes a b h = yes_is (ltb a b) (lt→ltb a b h)
-
-lt_no : (a b : ℕ) → b ≤ a → ltb a b ≡ false
-lt_no a b h = no_is (ltb a b) (λ t. absurd (omega (arith, ltb→lt a b t)))
 
 -- two numbers for each member of a set
 pair_sum : (n : ℕ) (L : ℕ → Bool) (g : ℕ → ℕ)
@@ -125,7 +120,7 @@ module _ (round : Round) (table after : List Row) (own : OwnRound round table) (
     split =
         let here : weight n K table j ≡ v n (K * n - r) = ap (λ x. v n (K * n - x)) t.first.1.0.box.ranked in
         elim (cases_lt r (K * n)) [
-          | inl l ↦ omega (arith, here, spread n K r some l, kept_weight, ap bit (lt_yes r (K * n) l))
+          | inl l ↦ omega (arith, here, spread n K r some l, kept_weight, ap bit (lt-ltb r (K * n) l))
           | inr l ↦
               let more : K * n ≤ (r / n + 1) * n = omega (arith, div-add-mod' r n, mod-lt r some, add-mul (r / n) 1 n, one-mul n) in
               omega (
@@ -134,7 +129,7 @@ module _ (round : Round) (table after : List Row) (own : OwnRound round table) (
                 done n K r l,
                 kept_weight,
                 done n K ((r / n + 1) * n) more,
-                ap bit (lt_no r (K * n) l),
+                ap bit (le-ltb r (K * n) l),
                 sum_zero (n - r % n) (λ i. v n (K * n - (r + 1 + i))) (λ i h. done n K (r + 1 + i) (omega arith)),
               )
         ]
@@ -148,20 +143,15 @@ module _ (round : Round) (table after : List Row) (own : OwnRound round table) (
 
   mixed_other : (r i : ℕ) → rank n (row_at table i) ≢ r → mixed (suc r) i ≡ mixed r i
   unfolding mixed
-  mixed_other r i x =
-      let q : ℕ = rank n (row_at table i) in
-      elim (cases_lt q r) [
-        | inl l ↦ ap (λ y. cond y (weight n K after i) (weight n K table i)) (lt_yes q (suc r) (omega arith) ∙ sym (lt_yes q r l))
-        | inr l ↦ ap (λ y. cond y (weight n K after i) (weight n K table i)) (lt_no q (suc r) (omega arith) ∙ sym (lt_no q r l))
-      ]
+  mixed_other r i x = grind (arith, common_steps)
 
   mixed_new : (r i : ℕ) → rank n (row_at table i) < r → mixed r i ≡ weight n K after i
   unfolding mixed
-  mixed_new r i l = ap (λ y. cond y (weight n K after i) (weight n K table i)) (lt_yes (rank n (row_at table i)) r l)
+  mixed_new r i l = ap (λ y. cond y (weight n K after i) (weight n K table i)) (lt-ltb (rank n (row_at table i)) r l)
 
   mixed_old : (r i : ℕ) → r ≤ rank n (row_at table i) → mixed r i ≡ weight n K table i
   unfolding mixed
-  mixed_old r i l = ap (λ y. cond y (weight n K after i) (weight n K table i)) (lt_no (rank n (row_at table i)) r l)
+  mixed_old r i l = ap (λ y. cond y (weight n K after i) (weight n K table i)) (le-ltb (rank n (row_at table i)) r l)
 
   same_weight : (i : ℕ) → i < round.boxes → ((r : ℕ) → Taken round table r i → ⊥)
       → weight n K after i ≡ weight n K table i

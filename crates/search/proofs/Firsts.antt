@@ -1,7 +1,8 @@
 -- The boxes of a table: the first of a rank, and tables that have the same boxes.
+use Rattle.std.proofs.lemmas.Grind.{common_steps}
 use Rattle.std.proofs.Common.{◌≡◌, ℕ, ◌/◌, ◌<◌, ◌≤◌, Bool, false, T, eqb, List, length, Some, None, Option, sym, refl, ap, ◌∙◌, subst, inl, inr, mul_comm, div-lt_iff_lt-mul, arith, eqb→eq}
 use lib.Dec.{eqb_refl}
-use Rattle.std.proofs.lemmas.Bool.{true≢false, cases_eq}
+use Rattle.std.proofs.lemmas.Bool.{true≢false}
 use Rattle.order.specs.Records.{candidate_before}
 use Rattle.order.specs.declared.answer.Answer.{Answer}
 use Rattle.order.specs.declared.records.Candidate.{Candidate}
@@ -13,7 +14,6 @@ use Rattle.table.specs.declared.rows.Row.{Row}
 use Rattle.table.proofs.Chains.{Leader, Strict, leader}
 use Rattle.table.proofs.OneFront.{first_one}
 use Rattle.table.proofs.Orders.{by_answer}
-use Rattle.table.proofs.Sums.{no_is}
 
 -- a box that can be cut has a level below the finest
 pub box_level : (n finest boxes : ℕ) (table : List Row) (r j : ℕ) → 1 ≤ n → OfRank n finest boxes table r j → rank n (row_at table j) / n < finest
@@ -56,14 +56,7 @@ module _ (n finest boxes : ℕ) (table : List Row) (r : ℕ) where
 
     none_before : (j : ℕ) → Leader (λ i j. before (w i) i (w j) j) boxes of_rank j
         → (x : Candidate) → Offered n finest boxes table r x → candidate_before x (record { answer = w j; row = j }) ≡ false
-    none_before j f x h =
-        let k : ℕ = x.row in
-        no_is _ (λ t.
-        let ahead : T (before (w k) k (w j) j) = subst (λ a. T (before a k (w j) j)) (one_answer _ _ _ h.answered (shows k h.box.within)) t in
-        elim (cases_eq k j) [
-          | inl e ↦ order.irrefl j (subst (λ y. T (before (w y) y (w j) j)) e ahead)
-          | inr ne ↦ order.irrefl j (order.trans j k j (f.leads k h.box.within (ranked_is k h.box.ranked) ne) ahead)
-        ])
+    none_before j f x h = grind (arith, common_steps)
 
     -- where a box of the rank can be cut, one of them is the first
     pub some_first : (i : ℕ) → OfRank n finest boxes table r i → (j : ℕ) × First n finest boxes table r j
@@ -90,6 +83,3 @@ module _ (n finest boxes : ℕ) (table after : List Row) (rows : (j : ℕ) → j
   pub first_of_rank_same : (r : ℕ) (o : Option Candidate) → FirstOfRank n finest boxes table r o → FirstOfRank n finest boxes after r o
   first_of_rank_same r o =
       first_among_same candidate_before _ _ (offered_same n finest boxes table after rows r) (offered_same n finest boxes after table (λ i l. sym (rows i l)) r) o
-
-  pub first_same : (r j : ℕ) → First n finest boxes table r j → First n finest boxes after r j
-  first_same r j f = (f.0, first_of_rank_same r (Some (record { answer = f.0; row = j })) f.1)

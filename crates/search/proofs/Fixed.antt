@@ -1,5 +1,6 @@
 -- A check, a refusal, a value, a state: each is one. Begin, open, answer and best have one outcome.
-use Rattle.std.proofs.Common.{◌≡◌, ℕ, ◌+◌, ◌*◌, ◌<◌, ◌≤◌, List, ℤ, Some, None, Ok, Err, Option, Result, sym, refl, ap, ◌∙◌, subst, inl, inr}
+use Rattle.std.proofs.lemmas.Grind.{common_steps}
+use Rattle.std.proofs.Common.{◌≡◌, ℕ, ◌+◌, ◌*◌, ◌<◌, ◌≤◌, List, ℤ, Some, None, Ok, Err, Option, Result, sym, refl, ap, ◌∙◌, subst, inl, inr, arith}
 use Rattle.std.proofs.lemmas.Bool.{cases_lt}
 use mathlib.Core.HLevel.{is_prop→PathP, ×_prop, ×₃_prop}
 use native.Mathlib.Bridge.{le_prop}
@@ -130,10 +131,7 @@ answers_one round table p a =
 -- Best
 
 same_best : (a b : ℕ × ℤ) → ◌≡◌ {A = Option Candidate} (Some (record { answer = Reading a.1; row = a.0 })) (Some (record { answer = Reading b.1; row = b.0 })) → (a.0 ≡ b.0) × (a.1 ≡ b.1)
-same_best a b e =
-    let same : ◌≡◌ {A = Candidate} (record { answer = Reading a.1; row = a.0 }) (record { answer = Reading b.1; row = b.0 }) = cc in
-    let answer : Reading a.1 ≡ Reading b.1 = ap (λ (c : Candidate). c.answer) same in
-    (ap (λ (c : Candidate). c.row) same, cc)
+same_best a b e = grind (arith, common_steps)
 
 best_one : (rest : Rest) (table : List Row) (o p : Option (ℕ × ℤ)) → BestOf rest table o → BestOf rest table p → o ≡ p
 best_one rest table None None x y = refl

@@ -1,14 +1,14 @@
 -- What holds of a search after each call, how it begins, and what follows from it.
-use Rattle.std.proofs.Common.{◌≡◌, ℕ, ◌+◌, ◌-◌, ◌*◌, ◌^◌, ◌<◌, ◌≤◌, Bool, cond, T, ◌≢◌, ◌⊎◌, List, length, set, replicate, Some, None, sym, refl, ap, ◌∙◌, subst, ap₂, subst₂, inl, inr, mul_comm, arith, length-set, get_or-set_same}
+use Rattle.std.proofs.lemmas.Grind.{common_steps}
+use Rattle.std.proofs.Common.{◌≡◌, ℕ, ◌+◌, ◌-◌, ◌*◌, ◌^◌, ◌<◌, ◌≤◌, Bool, cond, T, ◌≢◌, ◌⊎◌, List, length, set, replicate, Some, None, sym, ap, ◌∙◌, subst, subst₂, inl, inr, mul_comm, arith, length-set, get_or-set_same}
 use native.Mathlib.Nat.{pow-le-pow_right, sub-zero}
-use lib.ListN.{get_or-replicate, length-replicate}
+use lib.ListN.{get_or-replicate}
 use Rattle.std.proofs.lemmas.Bool.{cases_lt}
-use Rattle.grid.specs.Grid.{IsInterval, middle_of}
 use Rattle.order.specs.Answers.{allowed}
 use Rattle.order.specs.declared.answer.Answer.{Answer}
 use Rattle.ranks.specs.Ranks.{ranks}
 use Rattle.table.specs.Boxes.{IsBox, Own}
-use Rattle.table.specs.Entries.{answer_of, none_shown, shown_by}
+use Rattle.table.specs.Entries.{answer_of, shown_by}
 use Rattle.table.specs.Rows.{all_cells, IsCell, IsMiddle, LiesIn, first_of, level_of, no_row, rank, row_at, whole_grid}
 use Rattle.table.specs.Sums.{sum}
 use Rattle.table.specs.declared.rows.Entry.TheVariants.{Answered}
@@ -134,21 +134,10 @@ module _ (begun : Rest) (table written : List Row) (a : Answer) (rows : 1 ≤ le
   shown_zero = ap (λ (x : Bool). cond x (Some a) None) (yes_is (allowed a) ok)
 
   box_zero : IsBox n begun.shape.finest (whole_grid (Answered a))
-  box_zero = record {
-    answered = ap none_shown shown_zero;
-    directions = λ d l. record {
-      interval = subst₂ IsInterval (sym (first_zero d l)) (sym (level_zero d l)) (omega arith, refl, omega arith);
-      at_most = λ h. omega (arith, level_zero d l);
-      near = λ h e k. omega (arith, level_zero d l);
-      unused = λ h. level_zero d l;
-    };
-  }
+  box_zero = grind (arith, common_steps)
 
   middle_zero : IsMiddle n (whole_grid (Answered a)) (replicate n 581130733)
-  middle_zero = record {
-    directions = length-replicate n 581130733;
-    middle = λ d l. get_or-replicate n d 581130733 0 l ∙ sym (ap₂ middle_of (first_zero d (used d l)) (level_zero d (used d l)));
-  }
+  middle_zero = grind (arith, common_steps)
 
   only : (j : ℕ) → j < begun.boxes → j ≡ 0
   only j l = omega arith

@@ -1,4 +1,5 @@
 -- The levels of a box, its long sides, and the ranks of the rows that closing makes of it.
+use Rattle.std.proofs.lemmas.Grind.{common_steps}
 use Rattle.std.proofs.Common.{◌≡◌, ℕ, ◌+◌, ◌-◌, ◌*◌, ◌/◌, ◌%◌, ◌<◌, ◌≤◌, Bool, ◌&&◌, T, eqb, ◌≢◌, ◌⊎◌, ◌∙◌, subst, inl, inr, mod-lt, mul_comm, div-add-mod', mul-one, mul-add, arith, eqb→eq}
 use lib.Dec.{eqb_refl}
 use Rattle.std.proofs.lemmas.Bool.{cases_eq, cases_lt}
@@ -6,7 +7,7 @@ use Rattle.table.specs.Boxes.{InDirection, Long}
 use Rattle.table.specs.Rows.{level_of, rank}
 use Rattle.table.specs.Sums.{bit, sum}
 use Rattle.table.specs.declared.rows.Row.{Row}
-use Rattle.table.proofs.Sums.{bit_no, bit_yes, both, both_left, both_right, sum_add, sum_at, sum_cong, sum_const, sum_over, sum_short, test}
+use Rattle.table.proofs.Sums.{bit_no, bit_yes, both_right, sum_add, sum_at, sum_cong, sum_const, sum_over, sum_short}
 use Rattle.search.specs.Points.{Given, Kept, Side, is_long}
 
 -- the levels of a row differ by at most one
@@ -85,19 +86,7 @@ module _ (n : ℕ) (old new : Row) (some : 1 ≤ n) (six : n ≤ 6) (h : Near n 
 
   module _ (d : ℕ) (s : Side) (first : ℕ → Bool) (l : Long n old d) (g : Given n old new d s first) where
     given_level : (e : ℕ) → e < n → e ≢ d → level_of new e ≡ level_of old e + bit (is_long n old e && first e)
-    given_level e k x =
-        elim (test (is_long n old e && first e)) [
-          | inl t ↦ omega (
-            arith,
-            bit_yes (is_long n old e && first e) t,
-            (g.cut e (long_is n old some e k (both_left (is_long n old e) (first e) t)) x (both_right (is_long n old e) (first e) t)).level,
-          )
-          | inr t ↦ omega (
-            arith,
-            bit_no (is_long n old e && first e) t,
-            (g.rest e (omega arith) x (λ y z. t (both (is_long n old e) (first e) (long_yes n old some e y) z))).level,
-          )
-        ]
+    given_level e k x = grind (arith, common_steps)
 
     pub given_rank : (T (first d) → ⊥) → rank n new ≡ rank n old + 1 + sum n (λ e. bit (is_long n old e && first e))
     given_rank not-d =

@@ -34,7 +34,6 @@ pub mod Places
 pub mod Popped
 pub mod Progress
 pub mod Replaying
-pub mod Shaped
 pub mod Shuffles
 pub mod Slices
 pub mod Steps

@@ -1,42 +1,19 @@
 -- The rank, the long side and the cell of a point, as locate finds them.
-use Rattle.std.proofs.Common.{◌≡◌, ℕ, ◌+◌, ◌-◌, ◌*◌, ◌/◌, ◌%◌, ◌<◌, ◌≤◌, T, List, length, get_or, Some, None, Option, sym, refl, ap, ◌∙◌, subst, add-one, arith}
-use Rattle.std.proofs.lemmas.Bool.{eq-eqb, ne_eqb}
+use Rattle.std.proofs.Common.{◌≡◌, ℕ, ◌+◌, ◌-◌, ◌*◌, ◌/◌, ◌%◌, ◌<◌, ◌≤◌, T, List, length, get_or, Some, Option, refl, ap, subst, arith}
 use Rattle.order.specs.declared.records.Candidate.{Candidate}
 use Rattle.ranks.specs.Ranks.{ranks}
-use Rattle.table.specs.Boxes.{First, FirstOfRank, Long, OfRank, Own}
-use Rattle.table.specs.Rows.{level_of, rank, row_at}
-use Rattle.table.specs.Sums.{bit}
+use Rattle.table.specs.Boxes.{First, FirstOfRank, Long, Own}
+use Rattle.table.specs.Rows.{row_at}
 use Rattle.table.specs.declared.rows.Row.{Row}
 use Rattle.search.specs.Calls.{LocatedIn}
 use Rattle.search.specs.Counts.{points_below}
-use Rattle.search.specs.Points.{Coordinate, Side, high, is_long, longs_below, low, point_at}
+use Rattle.search.specs.Points.{Coordinate, Side, high, longs_below, low, point_at}
 use Rattle.search.specs.declared.states.Round.{Round}
-use Rattle.search.proofs.Firsts.{box_level, some_first}
 use Rattle.search.proofs.Levels.{longs, near_own}
-
-one_more : (n : ℕ) (row : Row) (d : ℕ) → longs_below n row (d + 1) ≡ longs_below n row d + bit (is_long n row d)
-one_more n row d = ap (longs_below n row) (add-one d)
-
-pub longs_in : (n : ℕ) (row : Row) (d x level : ℕ) → level_of row d ≡ level → level ≡ rank n row / n → x ≡ longs_below n row d → x + 1 ≡ longs_below n row (d + 1)
-longs_in n row d x level e is h = omega (arith, one_more n row d, ap bit (eq-eqb (level_of row d) (rank n row / n) (e ∙ is)))
-
-pub longs_out : (n : ℕ) (row : Row) (d x level : ℕ) → (level_of row d ≡ level → ⊥) → level ≡ rank n row / n → x ≡ longs_below n row d → x ≡ longs_below n row (d + 1)
-longs_out n row d x level ne is h = omega (arith, one_more n row d, ap bit (ne_eqb (level_of row d) (rank n row / n) (λ e. ne (e ∙ sym is))))
-
--- a chosen rank of an own table has a first box
-pub no_first : (n finest boxes : ℕ) (table : List Row) (r : ℕ) (o : Option Candidate) → Own n finest boxes table → FirstOfRank n finest boxes table r o → (j : ℕ) × OfRank n finest boxes table r j → o ≡ None → ⊥
-no_first n finest boxes table r o own f b e =
-    let first = some_first n finest boxes table r own b.0 b.1 in
-    subst (FirstOfRank n finest boxes table r) e f _ first.1.1.0
 
 -- the box that a first candidate stands for
 pub at_first : (n finest boxes : ℕ) (table : List Row) (r : ℕ) (o : Option Candidate) (c : Candidate) → FirstOfRank n finest boxes table r o → o ≡ Some c → First n finest boxes table r c.row
 at_first n finest boxes table r o c f e = (c.answer, subst (FirstOfRank n finest boxes table r) e f)
-
--- a long side of a box that can be cut has a level below 19
-pub coarse_side : (n finest boxes : ℕ) (table : List Row) (r j d : ℕ) → 1 ≤ n → finest ≤ 19 → First n finest boxes table r j → Long n (row_at table j) d → level_of (row_at table j) d < 19
-coarse_side n finest boxes table r j d some fine f long =
-    omega (arith, box_level n finest boxes table r j some f.1.0.box, long.level)
 
 pub side_number : (n finest boxes : ℕ) (table : List Row) (r j number : ℕ) → 1 ≤ n → n ≤ 6 → Own n finest boxes table → First n finest boxes table r j → number < 2 * (n - r % n) → number / 2 < longs_below n (row_at table j) n
 side_number n finest boxes table r j number some six own f l =

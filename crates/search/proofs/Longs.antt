@@ -1,4 +1,5 @@
 -- The long sides of a taken box, gathered by rising direction.
+use Rattle.std.proofs.lemmas.Grind.{common_steps}
 use Rattle.std.proofs.Common.{◌≡◌, ℕ, zero, suc, ◌+◌, ◌-◌, ◌*◌, ◌/◌, ◌%◌, ◌<◌, ◌≤◌, List, length, set, sym, ap, ◌∙◌, subst, inl, inr, add-one, arith}
 use Rattle.std.proofs.lemmas.List.{get_or-set_same, get_or-set_other}
 use Rattle.std.proofs.lemmas.Bool.{cases_eq}
@@ -44,10 +45,7 @@ module _ (n r : ℕ) (table : List Row) (j base : ℕ) (t : Taking n r table j b
   long_level d l = l.level ∙ ap (λ (x : ℕ). x / n) t.ranked
 
   pub long_cuttable : (d : ℕ) → Long n (row_at table j) d → Cuttable (row_at table j) d
-  long_cuttable d l =
-      let h = l.direction in
-      let w : d < 6 = omega (arith, t.six) in
-      record { within = w; interval = t.intervals d w; level = omega (arith, long_level d l, t.coarse) }
+  long_cuttable d l = grind (arith, common_steps)
 
   -- a long side has room for its points
   pub fits : (d : ℕ) → d < n → level_of (row_at table j) d ≡ r / n → longs_below n (row_at table j) d + 1 ≤ n - r % n
@@ -82,7 +80,4 @@ module _ (n r : ℕ) (table : List Row) (j base : ℕ) (t : Taking n r table j b
   pub long_same : (sides : List LongSide) (d : ℕ) → (level_of (row_at table j) d ≡ r / n → ⊥)
       → ((e : ℕ) → e < d → Long n (row_at table j) e → side_at sides (longs_below n (row_at table j) e) ≡ side_for n table j base e)
       → (e : ℕ) → e < d + 1 → Long n (row_at table j) e → side_at sides (longs_below n (row_at table j) e) ≡ side_for n table j base e
-  long_same sides d ne filled e l g = elim (cases_eq e d) [
-    | inl q ↦ absurd (short d ne (subst (Long n (row_at table j)) q g))
-    | inr x ↦ filled e (omega arith) g
-  ]
+  long_same sides d ne filled e l g = grind (arith, common_steps)

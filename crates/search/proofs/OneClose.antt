@@ -10,7 +10,7 @@ use Rattle.table.specs.declared.rows.Row.{Row}
 use Rattle.table.proofs.Sums.{test}
 use Rattle.search.specs.Calls.{Closes, ClosesIn, CutAll, NoneWaits, OwnRound, Rested}
 use Rattle.search.specs.Once.{One}
-use Rattle.search.specs.Points.{Given, Kept, Side, Six}
+use Rattle.search.specs.Points.{Given, Kept, Side, Six, cut_before}
 use Rattle.search.specs.declared.states.Rest.{Rest}
 use Rattle.search.specs.declared.states.Round.{Round}
 use Rattle.search.proofs.Levels.{long?}
@@ -60,7 +60,7 @@ module _ (round : Round) (table : List Row) where
             let e : round.boxes + (m - round.boxes) ≡ m = omega arith in
             let p = point_of round table own (m - round.boxes) (omega arith) in
             subst (λ (k : ℕ). row_at a k ≡ row_at b k) e
-            (given_one round.shape.n (row_at table p.1) round.shape.some _ _ p.2 p.3 _
+            (given_one round.shape.n (row_at table p.1) round.shape.some _ _ p.2 p.3 (λ e. cut_before round table p.0 p.1 e p.2)
             (one.given (m - round.boxes) p.0 p.1 p.2 p.3 p.4) (two.given (m - round.boxes) p.0 p.1 p.2 p.3 p.4) (entry_same _))
         | inr h ↦ one.above m h ∙ sym (two.above m h)
       ]

@@ -13,7 +13,7 @@ use Rattle.record.specs.declared.item.Named.{Named}
 use Rattle.record.specs.declared.item.Named.TheVariants as named
 use Rattle.refusal.specs.declared.Refusal.{Refusal}
 use Rattle.table.specs.declared.rows.Row.{Row}
-use Rattle.search.specs.Calls.{Answers, Begins, Closes, Opens, OpensIn}
+use Rattle.search.specs.Calls.{Closes, Opens, OpensIn}
 use Rattle.search.specs.Tales.{Makes, meaning_of, under}
 use Rattle.search.specs.Turns.{Declines, InTurn, Ready, Turn, cap_number}
 use Rattle.search.specs.Turns.Declines.{bad_reading, no_begin, no_cap, no_policy, no_round}
@@ -38,17 +38,11 @@ makes_fits : (by : Named) → Makes by → Fit (item.Round by)
 makes_fits named.Every h = tt
 makes_fits (named.Hull share) h = omega arith
 
-answers_allowed : (round : Round) (table : List Row) (p : ℕ) (a : Answer) (after : List Row) → Answers round table p a (Ok tt) after → T (allowed a)
-answers_allowed round table p a after o = (answered_by round table p a after o).allowed_answer
-
-begins_allowed : (n finest : ℕ) (table : List Row) (a : Answer) (rest : Rest) (after : List Row) → Begins n finest table a (Ok rest) after → T (allowed a)
-begins_allowed n finest table a rest after b = (begun_by n finest table a rest after b).allowed_answer
-
 -- an answer that was accepted is allowed
 answer_allowed : {d next : Due} {table after : List Row} (a : Answer) → Turn d table (item.Answer a) next after → T (allowed a)
-answer_allowed a (centre {n = n} {finest = f} {rest = rest} {table = t} {after = u} b) = begins_allowed n f t a rest u b
-answer_allowed a (point {round = round} {p = p} {table = t} {after = u} o l) = answers_allowed round t p a u o
-answer_allowed a (last {round = round} {p = p} {table = t} {between = u} o l c) = answers_allowed round t p a u o
+answer_allowed a (centre {n = n} {finest = f} {rest = rest} {table = t} {after = u} b) = (begun_by n f t a rest u b).allowed_answer
+answer_allowed a (point {round = round} {p = p} {table = t} {after = u} o l) = (answered_by round t p a u o).allowed_answer
+answer_allowed a (last {round = round} {p = p} {table = t} {between = u} o l c) = (answered_by round t p a u o).allowed_answer
 
 pub turn_fits : {d next : Due} {table after : List Row} {i : Item} → Turn d table i next after → Fit i
 turn_fits begins = tt

@@ -1,8 +1,9 @@
 -- The table after open is the round's own, and opening keeps what holds.
-use Rattle.std.proofs.Common.{◌≡◌, ℕ, ◌+◌, ◌-◌, ◌<◌, ◌≤◌, true, T, ◌≢◌, ◌⊎◌, List, [], map, length, get_or, None, sym, refl, ap, ◌∙◌, subst, ap₂, subst₂, inl, inr, arith, length-append, get_or-append-add}
+use Rattle.std.proofs.lemmas.Grind.{common_steps}
+use Rattle.std.proofs.Common.{◌≡◌, ℕ, ◌+◌, ◌-◌, ◌<◌, ◌≤◌, true, T, ◌≢◌, ◌⊎◌, List, [], map, length, get_or, None, sym, refl, ap, ◌∙◌, subst, ap₂, subst₂, inl, inr, arith, get_or-append-add}
 use Rattle.std.proofs.lemmas.Bool.{cases_lt}
 use mathlib.Core.Path.{subst₃}
-use lib.ListN.{get_or-append, length-map}
+use lib.ListN.{get_or-append}
 use Rattle.std.proofs.lemmas.List.{get_or-map}
 use Rattle.policy.specs.declared.front.Front.{Front}
 use Rattle.ranks.specs.Ranks.{Ranks}
@@ -63,14 +64,7 @@ module _ (meaning : Front → Ranks) (rest : Rest) (table : List Row) (round : R
     old_length = omega (arith, b.cells)
 
     new_length : length (opened_book book cells).cells ≡ round.boxes + round.points
-    new_length =
-        omega (
-          arith,
-          length-append book.cells (map (λ c. record { cell = c; answer = None }) cells),
-          old_length,
-          cs.count,
-          length-map cells (λ (c : List ℕ). let x : Noted = record { cell = c; answer = None } in x),
-        )
+    new_length = grind (arith, common_steps)
 
     noted_old : (i : ℕ) → i < round.boxes → noted (opened_book book cells) i ≡ noted book i
     noted_old i l = get_or-append book.cells (map (λ c. record { cell = c; answer = None }) cells) (record { cell = []; answer = None }) i (omega (arith, old_length))

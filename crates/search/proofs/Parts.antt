@@ -1,16 +1,15 @@
 -- The rows that one cut more makes.
+use Rattle.std.proofs.lemmas.Grind.{common_steps}
 use Rattle.std.proofs.Common.{◌≡◌, ℕ, ◌+◌, ◌<◌, ◌≢◌, ◌⊎◌, List, length, set, sym, refl, ap, ◌∙◌, subst, inl, inr, arith}
 use Rattle.std.proofs.lemmas.List.{length-set, get_or-set_same, get_or-set_other}
 use Rattle.std.proofs.lemmas.Bool.{cases_eq}
-use Rattle.grid.specs.Grid.{IsInterval}
 use Rattle.grid.specs.declared.interval.Interval.{Interval}
 use Rattle.grid.specs.declared.interval.cut.Thirds.{Thirds}
-use Rattle.table.specs.Rows.{all_cells, row_at, no_row, first_of, level_of, span_of}
-use Rattle.table.specs.declared.rows.Span.{Span}
+use Rattle.table.specs.Rows.{row_at, no_row, span_of}
 use Rattle.table.specs.declared.rows.Entry.{Entry}
 use Rattle.table.specs.declared.rows.Row.{Row}
-use Rattle.search.specs.Points.{Side, low, high, Third, middle, outer, start_of, IsThird, Same, Six}
-use Rattle.search.specs.Cutting.{Cuttable, PartOf, ThirdsIn, with_side, side_at, row_of, Ahead, MiddleOf, OuterOf, Sides, CutAlong}
+use Rattle.search.specs.Points.{Side, low, high, Third, middle, outer, IsThird, Same, Six}
+use Rattle.search.specs.Cutting.{PartOf, ThirdsIn, with_side, side_at, row_of, Ahead, MiddleOf, OuterOf, Sides}
 use Rattle.search.specs.declared.sides.LongSide.{LongSide}
 
 -- an interval for side d
@@ -18,27 +17,13 @@ module _ (row : Row) (d : ℕ) (i : Interval) (e : Entry) (six : Six row) (l : d
   side_six : Six (with_side row d i e)
   side_six = length-set row.spans d (span_of i) ∙ six
 
-  side_here : (p : Third) → PartOf p row d i → IsThird p row (with_side row d i e) d
-  side_here p part = record {
-    first = ap (λ (s : Span). s.first) (get_or-set_same row.spans d (span_of i) all_cells (omega (arith, six))) ∙ part.first;
-    level = ap (λ (s : Span). s.level) (get_or-set_same row.spans d (span_of i) all_cells (omega (arith, six))) ∙ part.level;
-  }
-
   side_there : (x : ℕ) → x ≢ d → Same row (with_side row d i e) x
-  side_there x ne = record {
-    first = ap (λ (s : Span). s.first) (get_or-set_other row.spans d x (span_of i) all_cells ne);
-    level = ap (λ (s : Span). s.level) (get_or-set_other row.spans d x (span_of i) all_cells ne);
-  }
+  side_there x ne = grind (arith, common_steps)
 
   -- what is left of the box old, when some directions are cut and d is not
   module _ (old : Row) (cuts : ℕ → Type 0) (left : MiddleOf old row cuts) (not-d : cuts d → ⊥) where
     here : (p : Third) → PartOf p row d i → IsThird p old (with_side row d i e) d
-    here p part =
-        let s = left.rest d l not-d in let t = side_here p part in
-        record {
-          first = t.first ∙ ap (λ (x : ℕ). start_of p x (level_of row d)) s.first ∙ ap (start_of p (first_of old d)) s.level;
-          level = t.level ∙ ap (λ (x : ℕ). x + 1) s.level;
-        }
+    here p part = grind (arith, common_steps)
 
     there_cut : (x : ℕ) → x ≢ d → cuts x → IsThird middle old (with_side row d i e) x
     there_cut x ne c = let s = side_there x ne in let t = left.cut x c in record { first = s.first ∙ t.first; level = s.level ∙ t.level }
@@ -50,13 +35,7 @@ module _ (row : Row) (d : ℕ) (i : Interval) (e : Entry) (six : Six row) (l : d
     outer_of s part = record { own = here (outer s) part; cut = λ x ne c. there_cut x ne c; rest = λ x b ne c. there_same x ne b c; six = side_six }
 
     middle_left : PartOf middle row d i → (more : ℕ → Type 0) → ((x : ℕ) → more x → cuts x ⊎ (x ≡ d)) → ((x : ℕ) → cuts x → more x) → more d → MiddleOf old (with_side row d i e) more
-    middle_left part more from to own = record {
-      cut = λ x m. elim (cases_eq x d) [
-        | inl q ↦ subst (λ (y : ℕ). IsThird middle old (with_side row d i e) y) (sym q) (here middle part)
-        | inr ne ↦ elim (from x m) [ inl c ↦ there_cut x ne c | inr q ↦ absurd (ne q) ]
-      ];
-      rest = λ x b n. there_same x (λ q. n (subst more (sym q) own)) b (λ c. n (to x c));
-    }
+    middle_left part more from to own = grind (arith, common_steps)
 
 -- the table and what is left of the box of row j, when the first i sides are cut
 pub record CutTo (table : List Row) (j : ℕ) (sides : List LongSide) (i : ℕ) (after : List Row) (left : Row) : Type 0 where
@@ -69,34 +48,9 @@ pub record CutTo (table : List Row) (j : ℕ) (sides : List LongSide) (i : ℕ) 
   pub others : (m : ℕ) → ((k : ℕ) (s : Side) → k < i → m ≢ row_of (side_at sides k) s) → row_at after m ≡ row_at table m
 
 module _ (table : List Row) (j : ℕ) (sides : List LongSide) (ok : Sides table j sides) where
-  pub cut_none : CutTo table j sides 0 table (row_at table j)
-  cut_none = record {
-    same_length = refl;
-    entries = λ m. refl;
-    entry = refl;
-    kept = record {
-      cut = λ e a. absurd (let l = a.1 in omega arith);
-      rest = λ e b a. record { first = refl; level = refl };
-    };
-    given = λ k s l. absurd (omega arith);
-    others = λ m n. refl;
-  }
-
   module _ (i : ℕ) (after : List Row) (left : Row) (fits : i < length sides) (to : CutTo table j sides i after left) where
     fresh : Ahead sides i (side_at sides i).direction.number → ⊥
     fresh a = ok.directions a.0 i a.1 fits a.2
-
-    -- what is left is as it was in a direction that is not cut yet
-    pub left_cuttable : Cuttable left (side_at sides i).direction.number
-    left_cuttable =
-        let c = ok.cuttable i fits in
-        let s = to.kept.rest (side_at sides i).direction.number c.within fresh in
-        record {
-          within = c.within;
-          interval = subst (λ (x : ℕ). IsInterval x (level_of left (side_at sides i).direction.number)) (sym s.first)
-              (subst (λ (x : ℕ). IsInterval (first_of (row_at table j) (side_at sides i).direction.number) x) (sym s.level) c.interval);
-          level = omega (arith, s.level, c.level);
-        }
 
     -- the rows x and y are written
     module _ (x y : Row) (same-x : x.entry ≡ (row_at after (side_at sides i).row).entry)
@@ -168,25 +122,3 @@ module _ (table : List Row) (j : ℕ) (sides : List LongSide) (ok : Sides table 
         (outer_of left (side_at sides i).direction.number t.low _ six (ok.cuttable i fits).within (row_at table j) (Ahead sides i) to.kept fresh low thirds.low)
         (outer_of left (side_at sides i).direction.number t.high _ six (ok.cuttable i fits).within (row_at table j) (Ahead sides i) to.kept fresh high thirds.high)
         t.middle six thirds.middle)
-
-  -- the taken row is written last
-  pub cut_all : (i : ℕ) (after : List Row) (left : Row) → i ≡ length sides → Six left → CutTo table j sides i after left → CutAlong table j sides (set after j left)
-  cut_all i after left e six to =
-      let here : row_at (set after j left) j ≡ left = get_or-set_same after j left no_row (omega (arith, ok.within, to.same_length)) in
-      record {
-        same_length = length-set after j left ∙ to.same_length;
-        entries = λ m. elim (cases_eq m j) [
-          | inl q ↦ ap (λ (k : ℕ). (row_at (set after j left) k).entry) q ∙ ap (λ (r : Row). r.entry) here ∙ to.entry ∙ ap (λ (k : ℕ). (row_at table k).entry) (sym q)
-          | inr n ↦ ap (λ (r : Row). r.entry) (get_or-set_other after j m left no_row n) ∙ to.entries m
-        ];
-        kept = subst (λ (r : Row). MiddleOf (row_at table j) r (Ahead sides (length sides))) (sym here) (subst (λ (k : ℕ). MiddleOf (row_at table j) left (Ahead sides k)) e to.kept);
-        six = subst Six (sym here) six;
-        given = λ k s l.
-            subst (λ (r : Row). OuterOf (row_at table j) r (side_at sides k).direction.number s (Ahead sides k))
-            (sym (get_or-set_other after j (row_of (side_at sides k) s) left no_row (not_j k s l))) (to.given k s (omega arith));
-        others = λ m n o. get_or-set_other after j m left no_row n ∙ to.others m (λ k s l. o k s (omega arith));
-      }
-    where
-      not_j : (k : ℕ) (s : Side) → k < length sides → row_of (side_at sides k) s ≢ j
-      not_j k low l = λ q. absurd (omega (arith, ok.after k l))
-      not_j k high l = λ q. absurd (omega (arith, ok.after k l))

@@ -1,9 +1,8 @@
 -- The points of a set of ranks, as its lowest ranks are taken out.
-use Rattle.std.proofs.Common.{◌≡◌, ℕ, ◌+◌, ◌-◌, ◌*◌, ◌%◌, ◌<◌, ◌≤◌, Bool, true, false, cond, sym, refl, ap, ◌∙◌, subst, inl, inr, arith}
-use Rattle.std.proofs.lemmas.Bool.{both_ways, cases_eq}
+use Rattle.std.proofs.lemmas.Grind.{common_steps}
+use Rattle.std.proofs.Common.{◌≡◌, ℕ, ◌+◌, ◌-◌, ◌*◌, ◌%◌, ◌<◌, ◌≤◌, Bool, true, false, cond, refl, ap, ◌∙◌, arith}
 use Rattle.ranks.specs.Ranks.{Ranks, none, without, Lowest}
 use Rattle.ranks.proofs.Changes.{without_here, without_other}
-use Rattle.ranks.proofs.Lowest.{not_below}
 use Rattle.table.proofs.Sums.{sum_at, sum_cong, sum_split, sum_zero, sum_under}
 use Rattle.search.specs.Counts.{points_below, points_of}
 
@@ -53,14 +52,7 @@ module _ (n : ℕ) (p : Ranks) (r : ℕ) (w : Lowest p r) where
   points_before q x tail l e = start_below q 114 x tail l e
 
   pub tail_less : (q : Ranks) → Tail q p → Tail q (without p r)
-  tail_less q tail k h i l =
-      elim (cases_eq k r) [
-        | inl e ↦ absurd (both_ways (without p r k) (subst (λ x. without p r x ≡ false) (sym e) (without_here p r)) h)
-        | inr ne ↦
-            let here : p k ≡ true = sym (without_other p r k ne) ∙ h in
-            let up : r ≤ k = not_below p r k w here in
-            tail k here i l ∙ sym (without_other p r i (λ e. ne (omega arith)))
-      ]
+  tail_less q tail k h i l = grind (arith, common_steps)
 
 none_below : (n top : ℕ) → points_below n none top ≡ 0
 none_below n top = sum_zero top (width n none) (λ i l. refl)

@@ -1,16 +1,15 @@
 -- How a replay goes on, ends, and is refused.
-use Rattle.std.proofs.Common.{◌≡◌, ℕ, ◌-◌, ◌≤◌, List, [], ◌∷◌, ◌++◌, length, take, Ok, Err, sym, refl, ap, ◌∙◌, subst, inl, inr, append_assoc, append-nil, arith, length-append}
+use Rattle.std.proofs.Common.{◌≡◌, ℕ, ◌-◌, List, [], ◌∷◌, ◌++◌, length, Ok, sym, refl, ap, ◌∙◌, subst, inl, append_assoc, append-nil, arith, length-append}
 use Rattle.std.proofs.lemmas.List.{flat_map_more}
 use Rattle.std.specs.List.{flat_map}
-use Rattle.record.specs.Items.{Fit, bytes_of, mark_bytes, mark_of}
+use Rattle.record.specs.Items.{bytes_of}
 use Rattle.record.specs.declared.item.Item.{Item}
-use Rattle.record.proofs.Decode.{front_mark, long, same_mark}
 use Rattle.refusal.specs.declared.Refusal.TheVariants.{RecordCutShort}
 use Rattle.table.specs.declared.rows.Row.{Row}
 use Rattle.search.specs.Replays.{Starts, Refuses, Replays, Stops, at}
 use Rattle.search.specs.Replays.Starts.{rested}
 use Rattle.search.specs.Tales.{Leads, Tale, items_of, record_of}
-use Rattle.search.specs.Turns.{InTurn, Turn, Turns}
+use Rattle.search.specs.Turns.{Turn}
 use Rattle.search.specs.declared.replay.due.Due.{Due}
 use Rattle.search.specs.declared.replay.due.Due.TheVariants as due
 use Rattle.search.specs.declared.replay.refused_at.RefusedAt.{RefusedAt}
@@ -20,9 +19,6 @@ use Rattle.search.proofs.Beginnings.{one_more}
 -- what was read so far is what the record of a run begins with, and the rest is left
 abbrev pub SoFar : List Row → List ℕ → List ℕ → Due → List Row → Type 0
 SoFar table bytes rest d after = (items : List Item) × (flat_map bytes_of items ++ rest ≡ bytes) × Starts table items d after
-
-pub so_far_fits : (table : List Row) (bytes rest : List ℕ) (d : Due) (after : List Row) → SoFar table bytes rest d after → length rest ≤ length bytes
-so_far_fits table bytes rest d after h = omega (arith, length-append (flat_map bytes_of h.0) rest, ap length h.1)
 
 place_is : (table : List Row) (bytes rest : List ℕ) (d : Due) (after : List Row) (h : SoFar table bytes rest d after) → length bytes - length rest ≡ length (flat_map bytes_of h.0)
 place_is table bytes rest d after h = omega (arith, length-append (flat_map bytes_of h.0) rest, ap length h.1)
@@ -47,32 +43,6 @@ refuses table bytes rest d after e h s = record {
   starts = h.2;
   stops = subst (λ (k : ℕ). Stops d after k rest e) (place_is table bytes rest d after h) s;
 }
-
--- an item in full that is out of turn or declined
-pub item_stops : (d : Due) (table after : List Row) (here : ℕ) (bytes left : List ℕ) (i : Item) (e : RefusedAt) → bytes ≡ bytes_of i ++ left → Fit i
-    → Turns here d table i (Err e) after → Stops d table here bytes e
-item_stops d table after here bytes left i e p fit h =
-    let two : 2 ≤ length bytes = omega (arith, ap length p, long i left) in
-    let mark : take 2 bytes ≡ mark_bytes (mark_of i) = ap (take 2) p ∙ front_mark i left in
-    inr (
-      omega arith,
-      inr (
-        two,
-        inr (
-          (mark_of i, mark),
-          elim h.1 [
-            | inl x ↦ inl (λ y. x.0 (subst (InTurn d) (same_mark y.0 (mark_of i) (sym y.1 ∙ mark)) y.2), λ t. record { why = x.1 t; place = x.2 t })
-            | inr x ↦ inr ((mark_of i, mark, x.0), inr ((i, left, fit, p), (i, left, fit, p, x.1)))
-          ],
-        ),
-      ),
-    )
-
--- the record is refused at that item, and the table stays as it was
-pub halts : (table : List Row) (bytes rest left : List ℕ) (d : Due) (before after : List Row) (e : RefusedAt) (i : Item) → SoFar table bytes rest d before → rest ≡ bytes_of i ++ left
-    → Fit i → Turns (length bytes - length rest) d before i (Err e) after → Refuses table bytes e after
-halts table bytes rest left d before after e i h p fit t =
-    subst (Refuses table bytes e) (sym t.0) (refuses table bytes rest d before e h (item_stops d before after (length bytes - length rest) rest left i e p fit t))
 
 -- the record ends while something is due
 pub cut_off : (table : List Row) (bytes rest : List ℕ) (d : Due) (after : List Row) → SoFar table bytes rest d after → length rest ≡ 0 → ((r : Rest) → d ≡ due.Rest r → ⊥)

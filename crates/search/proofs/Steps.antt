@@ -1,44 +1,29 @@
 -- Answering and closing keep what holds.
+use Rattle.std.proofs.lemmas.Grind.{common_steps}
 use Rattle.std.proofs.Common.{◌≡◌, ℕ, ◌+◌, ◌-◌, ◌<◌, Bool, cond, ◌≢◌, List, [], length, Some, None, sym, refl, ap, ◌∙◌, subst, inl, inr, arith, length-set, get_or-set_other, get_or-set_same}
 use Rattle.std.proofs.lemmas.Bool.{cases_eq, cases_lt}
 use mathlib.Core.Path.{subst₃}
 use Rattle.order.specs.Answers.{allowed}
 use Rattle.order.specs.declared.answer.Answer.{Answer}
-use Rattle.table.specs.Boxes.{Long}
 use Rattle.table.specs.Entries.{shown_by}
 use Rattle.table.specs.Rows.{IsMiddle, LiesIn, row_at}
 use Rattle.table.specs.declared.rows.Row.{Row}
 use Rattle.table.specs.declared.shape.Shape.{Shape}
 use Rattle.table.proofs.Sums.{yes_is}
-use Rattle.search.specs.Points.{CellOf, Located, point_at}
+use Rattle.search.specs.Points.{Located}
 use Rattle.search.specs.Runs.{Book, answered_book, closed_book, noted}
 use Rattle.search.specs.declared.states.Rest.{Rest}
 use Rattle.search.specs.declared.states.Round.{Round}
 use Rattle.search.proofs.Answering.{own_answered, row_here, row_other, rows}
 use Rattle.search.proofs.Closing.{Part, middle_new, middle_old, own_after, part_cover, part_of, part_one, part_wider, part_within}
 use Rattle.search.proofs.Falling.{falls, never_rises}
-use Rattle.search.proofs.Firsts.{first_same}
 use Rattle.search.proofs.Invariant.{Base, RestHas, RoundHas, same_base, same_weights}
 use Rattle.search.proofs.Outcomes.{AnsweredBy, ClosedBy}
 
 -- a table with the same boxes has the same points
 located_same : (round : Round) (table after : List Row) → ((j : ℕ) → j < round.boxes → row_at after j ≡ row_at table j)
     → (p : ℕ) (c : List ℕ) → Located round table p c → Located round after p c
-located_same round table after rows p c f =
-    let t = f.point.taken in
-    let row : row_at table f.row ≡ row_at after f.row = sym (rows f.row t.first.1.0.box.within) in
-    record {
-      row = f.row;
-      of = f.of;
-      direction = f.direction;
-      side = f.side;
-      point = record {
-        taken = record { in_set = t.in_set; first = first_same round.shape.n round.shape.finest round.boxes table after rows f.of f.row t.first };
-        long = subst (λ r. Long round.shape.n r f.direction) row f.point.long;
-        number = f.point.number ∙ ap (λ r. point_at round f.of r f.direction f.side) row;
-      };
-      cell = subst (λ r. CellOf round.shape.n r f.direction f.side c) row f.cell;
-    }
+located_same round table after rows p c f = grind (arith, common_steps)
 
 -- Answer
 

@@ -12,7 +12,7 @@ use Rattle.search.specs.declared.states.Round.{Round}
 use Rattle.search.specs.Calls.{OwnRound, CutAll}
 use Rattle.search.specs.Cutting.{Taking, CutBox}
 use Rattle.search.proofs.Firsts.{shown_is}
-use Rattle.search.proofs.CutRanks.{CutRanks, below, below_next, cut_end, cut_one, cut_skips, cut_start, room, taking}
+use Rattle.search.proofs.CutRanks.{CutRanks, below, below_next, cut_end, cut_one, cut_skips, room, taking}
 
 -- the chosen ranks below some rank are done, the others are left in the set, and the next points have the rows from next on
 pub record Turns (round : Round) (table : List Row) (set : Ranks) (next : ℕ) (after : List Row) : Type 0 where
@@ -24,9 +24,6 @@ pub record Turns (round : Round) (table : List Row) (set : Ranks) (next : ℕ) (
   pub place : next ≡ round.boxes + below round to
 
 module _ (round : Round) (table : List Row) (own : OwnRound round table) where
-  pub turns_start : Turns round table (ranks round.chosen) round.boxes table
-  turns_start = record { to = 0; most = omega arith; gone = λ k h. absurd (omega arith); left = λ k h. refl; cut = cut_start round table own; place = omega arith }
-
   module _ (set : Ranks) (next : ℕ) (mid : List Row) (t : Turns round table set next mid) where
     reach : (r : ℕ) → t.to ≤ r → ((k : ℕ) → k < r → set k ≡ false)
         → CutRanks round table r mid × (next ≡ round.boxes + below round r)

@@ -24,7 +24,7 @@ pub(crate) fn cut_taken(round: &Round, table: &mut [Row])
                 base: next,
             };
             cut.cut(table);
-            next += 2 * (n - rank % n);
+            next += 2 * round.shape.long_sides(rank);
         }
     }
 }

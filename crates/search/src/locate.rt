@@ -6,7 +6,7 @@ ghost use Rattle.table.specs.Boxes.{FirstOfRank, Long};
 ghost use Rattle.table.specs.Rows.{first_of, level_of, rank};
 ghost use Rattle.table.specs.Sums.{bit, sum};
 ghost use Rattle.search.specs.Calls.{Locates, LocatesIn, OwnRound};
-ghost use Rattle.search.specs.Counts.{points_below, points_of};
+ghost use Rattle.search.specs.Counts.{points_below};
 ghost use Rattle.search.specs.Points.{Coordinate, Moved, high, is_long, low};
 
 use crate::cutting::interval_in;
@@ -14,35 +14,38 @@ use crate::look::Looked;
 use crate::side::Side;
 use crate::states::Round;
 use grid::interval::Interval;
-use ranks::rank_set::RankSet;
 use refusal::Refusal;
 use table::rows::Row;
+use table::shape::Shape;
 
-// The chosen rank that a point is of, and the point's number in that rank.
-fn rank_at(n: usize, chosen: RankSet, point: usize) -> (usize, usize)
-    requires { (1 ≤ n) × ((n ≤ 6) × (point < points_of n (ranks chosen))) }
-    ensures chosen { (result.0 < 114) × (ranks chosen result.0 ≡ true) }
-    ensures number { point ≡ points_below n (ranks chosen) result.0 + result.1 }
-    ensures among { result.1 < 2 * (n - result.0 % n) }
-{
-    let mut start = 0;
-    for rank in chosen.members() {
-        let points = 2 * (n - rank % n);
-        if point - start < points {
-            return (rank, point - start);
+impl Round {
+    // The chosen rank that a point is of, and the point's number in that rank.
+    fn rank_of(&self, point: usize) -> (usize, usize)
+        requires { point < self.now.points }
+        ensures chosen { (result.0 < 114) × (ranks self.now.chosen result.0 ≡ true) }
+        ensures number { point ≡ points_below self.now.shape.n (ranks self.now.chosen) result.0 + result.1 }
+        ensures among { result.1 < 2 * (self.now.shape.n - result.0 % self.now.shape.n) }
+    {
+        let mut start = 0;
+        for rank in self.chosen.members() {
+            let points = 2 * self.shape.long_sides(rank);
+            if point - start < points {
+                return (rank, point - start);
+            }
+            start += points;
         }
-        start += points;
+        unreachable()
     }
-    unreachable()
 }
 
 // The long side of a box of a level, by its number among the long sides.
-fn long_side(row: &Row, n: usize, level: usize, number: usize) -> usize
-    requires { (n ≤ 6) × ((level ≡ rank n row.now / n) × (number < sum n (λ e. bit (is_long n row.now e)))) }
-    ensures { Long n row.now result × (number ≡ sum result (λ e. bit (is_long n row.now e))) }
+fn long_side(row: &Row, shape: &Shape, level: usize, number: usize) -> usize
+    requires { (level ≡ rank shape.now.n row.now / shape.now.n) × (number < sum shape.now.n (λ e. bit (is_long shape.now.n row.now e))) }
+    ensures { Long shape.now.n row.now result × (number ≡ sum result (λ e. bit (is_long shape.now.n row.now e))) }
 {
+    // `filter` and `nth` are no shorter: what they give would have to be tied to the sum that counts the sides.
     let mut seen = 0;
-    for (d, span) in row.spans[..n].iter().enumerate() {
+    for (d, span) in row.spans[..usize::from(shape.n)].iter().enumerate() {
         if usize::from(span.level) == level {
             if seen == number {
                 return d;
@@ -91,15 +94,15 @@ fn coordinate(row: &Row, d: usize, side: Side, e: usize) -> u32
 }
 
 // Writes the n cells of a point of the long side d, low or high.
-fn write_cell(row: &Row, n: usize, d: usize, side: Side, cells: &mut [u32])
-    requires intervals { (e : ℕ) → e < n → IsInterval (first_of row.now e) (level_of row.now e) }
+fn write_cell(row: &Row, shape: &Shape, d: usize, side: Side, cells: &mut [u32])
+    requires intervals { (e : ℕ) → e < shape.now.n → IsInterval (first_of row.now e) (level_of row.now e) }
     requires side { level_of row.now d < 19 }
-    requires room { (n ≤ 6) × (n ≤ length cells.old) }
-    ensures cell { (e : ℕ) → e < n → Coordinate row.now d side e (slice_index cells.new e) }
+    requires room { shape.now.n ≤ length cells.old }
+    ensures cell { (e : ℕ) → e < shape.now.n → Coordinate row.now d side e (slice_index cells.new e) }
     ensures same { length cells.new ≡ length cells.old }
-    ensures after { (e : ℕ) → n ≤ e → slice_index cells.new e ≡ slice_index cells.old e }
+    ensures after { (e : ℕ) → shape.now.n ≤ e → slice_index cells.new e ≡ slice_index cells.old e }
 {
-    for (e, cell) in cells[..n].iter_mut().enumerate() {
+    for (e, cell) in cells[..usize::from(shape.n)].iter_mut().enumerate() {
         *cell = coordinate(row, d, side, e);
     }
 }
@@ -117,14 +120,14 @@ impl Looked<'_> {
         if cells.len() < n {
             return Err(Refusal::ShortCellList);
         }
-        let (rank, number) = rank_at(n, round.chosen, point);
+        let (rank, number) = round.rank_of(point);
         let taken = match self.firsts[rank] {
             Some(first) => first.row,
             None => unreachable(),
         };
         let row = self.table[taken];
-        let d = long_side(&row, n, rank / n, number / 2);
-        write_cell(&row, n, d, side_of(number), cells);
+        let d = long_side(&row, &round.shape, rank / n, number / 2);
+        write_cell(&row, &round.shape, d, side_of(number), cells);
         Ok(())
     }
 }

@@ -12,7 +12,7 @@ use table::rows::Row;
 
 mod own;
 
-// A round and a table of its own, with the first box of each rank that can be cut.
+// A round and a table of its own, with the first box of each rank that can be cut, in an array as `table` gives it.
 #[derive(Drop)]
 pub(crate) struct Looked<'a> {
     pub round: &'a Round,

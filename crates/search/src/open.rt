@@ -20,10 +20,9 @@ fn points_of(shape: &Shape, chosen: RankSet) -> usize
     ensures value { result ≡ points_of shape.now.n (ranks chosen) }
     ensures few { result ≤ 1368 }
 {
-    let n = shape.n as usize;
     let mut points = 0;
     for rank in chosen.members() {
-        points += 2 * (n - rank % n);
+        points += 2 * shape.long_sides(rank);
     }
     points
 }

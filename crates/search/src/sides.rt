@@ -1,6 +1,6 @@
 // The long sides of a taken box, in the order of cutting.
 ghost use Rattle.std.specs.Prelude.{◌≡◌, ◌+◌, ◌-◌, ◌%◌, ◌<◌, length, take};
-ghost use Rattle.search.specs.Cutting.{Gathered, InCutOrder, Taking, with_row};
+ghost use Rattle.search.specs.Cutting.{Gathered, InCutOrder, Taking, side_before, with_row};
 ghost use Rattle.std.proofs.Common.{rules};
 
 use order::answer::Answer;
@@ -17,6 +17,7 @@ pub(crate) struct LongSide {
 }
 
 // A taken box: the directions of its search, its row, its rank, and the row of its first point.
+// How it stands in the table is a condition and no field: the table is written while it is cut.
 #[derive(Clone, Copy)]
 pub(crate) struct TakenBox {
     pub n: usize,
@@ -29,6 +30,10 @@ impl Ordered for LongSide {
     type Key = (Answer, usize);
 
     ghost key = { λ s. (s.direction.w, s.direction.number) };
+
+    ghost before = { side_before };
+
+    ghost by_key = { Prim.search rules };
 
     ghost total = { Prim.search rules };
 
@@ -51,7 +56,7 @@ fn side(table: &[Row], number: usize, row: usize) -> LongSide
 }
 
 impl TakenBox {
-    // Its long sides by rising direction; what stands past them is of no account.
+    // Its long sides by rising direction, in an array since this crate has no heap; what stands past them is of no account.
     fn long_sides(&self, table: &[Row]) -> [LongSide; SIDES]
         requires { Taking self.now.n self.now.rank table.now self.now.row self.now.base }
         ensures { Gathered self.now.n table.now self.now.row self.now.base result }

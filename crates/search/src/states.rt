@@ -1,4 +1,5 @@
 // A search at rest, and a round of it. Neither can be copied.
+// That a table is its own is a condition of inner calls and no field here: a value that held the fact would hold the table, which the caller lends at each call.
 ghost use Rattle.std.specs.Prelude.{◌≡◌, ◌+◌, ◌*◌, ◌<◌, ◌≤◌};
 ghost use Rattle.ranks.specs.Ranks.{ranks};
 ghost use Rattle.search.specs.Counts.{points_of};

@@ -23,6 +23,7 @@ pub fn first_round<P: Policy>(
 {
     let rest = begin(n, finest, table, middle)?;
     let round = rest.open(policy, table)?;
+    // A point is called by its number, and there may be fewer answers than points.
     for point in 0..round.points() {
         let answer = answers.get(point).copied().unwrap_or(Answer::NotFeasible);
         round.answer(point, answer, table)?;

@@ -1,8 +1,9 @@
 -- A strict total order given by a test: the first of a set, and sums over the places in a set.
+use Rattle.std.proofs.lemmas.Grind.{common_steps}
 use Rattle.std.proofs.Common.{◌≡◌, ℕ, zero, suc, ◌<◌, Bool, false, cond, ◌&&◌, T, eqb, ◌≢◌, ◌⊎◌, sym, refl, ap, ◌∙◌, subst, inl, inr, arith}
 use Rattle.std.proofs.lemmas.Bool.{cases_eq, eq-eqb, ne_eqb}
 use Rattle.table.specs.Sums.{sum, bit}
-use Rattle.table.proofs.Sums.{test, yes_is, no_is, bit_yes, bit_no, both, both_left, both_right, sum_cong, sum_at, sum_none, sum_zero}
+use Rattle.table.proofs.Sums.{test, yes_is, no_is, bit_yes, bit_no, both, both_left, both_right, sum_at, sum_none, sum_zero}
 
 pub record Strict (b : ℕ → ℕ → Bool) : Type 0 where
   pub irrefl : (d : ℕ) → T (b d d) → ⊥
@@ -110,15 +111,7 @@ module _ (b : ℕ → ℕ → Bool) (s : Strict b) (n m : ℕ) (L : ℕ → Bool
       )
 
   place_other : (d : ℕ) → d < n → d ≢ z → T (L d) → place b n L d ≡ place b n (less_one L z) d
-  place_other d l h t =
-      sum_cong n (λ e. bit (L e && b e d)) (λ e. bit (less_one L z e && b e d))
-      (λ e k. elim (cases_eq e z) [
-        | inl q ↦ bit_no (L e && b e d)
-            (λ x. s.irrefl d (s.trans d z d (last.leads d l t h) (subst (λ y. T (b y d)) q (both_right (L e) (b e d) x))))
-            ∙ sym (bit_no (less_one L z e && b e d)
-            (λ x. subst T (ap (less_one L z) q ∙ less_one_self L z) (both_left (less_one L z e) (b e d) x)))
-        | inr q ↦ ap (λ y. bit (y && b e d)) (sym (less_one_other L z e q))
-      ])
+  place_other d l h t = grind (arith, common_steps)
 
   places_step : sum n (λ d. cond (less_one L z d) (f (place b n (less_one L z) d)) 0) ≡ sum m f
       → sum n (λ d. cond (L d) (f (place b n L d)) 0) ≡ sum (suc m) f

@@ -1,8 +1,9 @@
 -- The least and the greatest reading, one box more.
-use Rattle.std.proofs.Common.{suc, [], ◌∷◌, length, get_or, ◌≡◌, ℕ, ◌+◌, cond, ◌⊎◌, List, ℤ, ◌≤ℤ◌, Some, None, Option, sym, ap, ◌∙◌, subst, inl, inr, ⊎_elim, arith}
+use Rattle.std.proofs.lemmas.Grind.{common_steps}
+use Rattle.std.proofs.Common.{suc, [], ◌∷◌, length, get_or, ◌≡◌, ℕ, ◌+◌, cond, ◌⊎◌, List, ℤ, ◌≤ℤ◌, Some, None, Option, sym, ap, ◌∙◌, subst, ⊎_elim, arith}
 use borrow.Author.Differences.{ints}
 use lib.Signed.{lt_z}
-use Rattle.std.proofs.lemmas.Bool.{cases_lt, cond_both}
+use Rattle.std.proofs.lemmas.Bool.{cond_both}
 use Rattle.std.specs.List.{fold}
 use Rattle.order.specs.declared.answer.Answer.{Answer}
 use Rattle.order.specs.declared.answer.Answer.TheVariants.{Reading, NotFeasible}
@@ -25,10 +26,7 @@ same_reading o x y p q = cc
 
 module _ (table : List Row) (j : ℕ) where
   split : (k : ℕ) (y : ℤ) → Reads (j + 1) table k y → Reads j table k y ⊎ (shown_by (row_at table j).entry ≡ Some (Reading y))
-  split k y r = ⊎_elim
-      (λ h. inl (h, r.1))
-      (λ h. let w = r.0 in let e : k ≡ j = omega arith in inr (ap (λ (i : ℕ). shown_by (row_at table i).entry) (sym e) ∙ r.1))
-      (cases_lt k j)
+  split k y r = grind (arith, common_steps)
 
   wider : (y : ℤ) → (k : ℕ) × Reads j table k y → (k : ℕ) × Reads (j + 1) table k y
   wider y r = let h = r.1.0 in (r.0, (omega arith, r.1.1))

@@ -1,6 +1,7 @@
 -- The first box of each rank, one box more.
+use Rattle.std.proofs.lemmas.Grind.{common_steps}
 use Rattle.std.proofs.Common.{◌≡◌, ℕ, ◌+◌, ◌*◌, ◌<◌, ◌≤◌, ◌⊎◌, List, length, get_or, set, Some, None, Option, sym, ap, ◌∙◌, subst, inl, inr, ⊎_elim, mul-le-mul, arith}
-use Rattle.std.proofs.lemmas.Bool.{cases_lt, cases_eq}
+use Rattle.std.proofs.lemmas.Bool.{cases_eq}
 use Rattle.std.proofs.lemmas.List.{get_or-set_same, get_or-set_other}
 use Rattle.order.specs.First.{FirstAmong, HeldOr}
 use Rattle.order.specs.Records.{candidate_before, candidate_key}
@@ -30,10 +31,7 @@ module _ (n finest : ℕ) (table : List Row) (i : ℕ) where
   wider r x s = record { box = record { within = omega (arith, s.box.within); ranked = s.box.ranked; unfinished = s.box.unfinished }; answered = s.answered }
 
   more : (r : ℕ) (x : Candidate) → Offered n finest (i + 1) table r x → Offered n finest i table r x ⊎ (x.row ≡ i)
-  more r x s = ⊎_elim
-      (λ h. inl (record { box = record { within = h; ranked = s.box.ranked; unfinished = s.box.unfinished }; answered = s.answered }))
-      (λ h. let w = s.box.within in inr (omega arith))
-      (cases_lt x.row i)
+  more r x s = grind (arith, common_steps)
 
   -- row i is of another rank, or is finished, or has no answer
   pub firsts_other : (r : ℕ) (o : Option Candidate) → (rank n (row_at table i) ≡ r → r < n * finest → (a : Answer) → shown_by (row_at table i).entry ≡ Some a → ⊥) → FirstOfRank n finest i table r o → FirstOfRank n finest (i + 1) table r o

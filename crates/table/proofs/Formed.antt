@@ -1,5 +1,6 @@
 -- What the boxes of a table show makes a front, and a table has one front.
-use Rattle.std.proofs.Common.{◌≡◌, ℕ, ◌*◌, ◌<◌, ◌≤◌, Bool, true, false, cond, List, length, get_or, ℤ, ◌≤ℤ◌, Some, None, Option, sym, refl, ap, ◌∙◌, ⊎_elim, mul_comm, mul-le-mul_left, arith}
+use Rattle.std.proofs.lemmas.Grind.{common_steps}
+use Rattle.std.proofs.Common.{◌≡◌, ℕ, ◌*◌, ◌<◌, ◌≤◌, Bool, true, false, cond, List, length, get_or, ℤ, ◌≤ℤ◌, Some, None, Option, sym, refl, ap, ◌∙◌, ⊎_elim, arith}
 use borrow.Author.Differences.{ints}
 use lib.Signed.{le_z}
 use Rattle.std.proofs.lemmas.List.{get_or_past}
@@ -57,19 +58,11 @@ module _ (n finest boxes : ℕ) (table : List Row) where
   candidate_fits ends r None f first = none_fits ends
   candidate_fits ends r (Some c) f first = answer_fits ends c.answer c.row f first.0.box.within first.0.answered
 
-  -- a filled entry is of a rank below 19 n
-  filled_low : finest ≤ 19 → (r : ℕ) (o : Option Candidate) → 19 * n ≤ r → FirstOfRank n finest boxes table r o → answer_in o ≡ None
-  filled_low fine r None far first = refl
-  filled_low fine r (Some c) far first = absurd (omega (arith, first.0.box.unfinished, mul-le-mul_left n fine, mul_comm n 19))
-
   module _ (entries : List (Option Answer)) (firsts : List (Option Candidate)) (long : length entries ≡ 114)
       (is : (r : ℕ) → r < 114 → get_or entries r None ≡ answer_in (get_or firsts r None))
       (first : (r : ℕ) → r < 114 → FirstOfRank n finest boxes table r (get_or firsts r None)) where
     pub empty_from : finest ≤ 19 → EmptyFrom (19 * n) entries
-    empty_from fine r far = ⊎_elim
-        (λ l. is r l ∙ filled_low fine r _ far (first r l))
-        (λ l. get_or_past entries r None (omega (arith, long)))
-        (cases_lt r 114)
+    empty_from fine r far = grind (arith, common_steps)
 
     pub all_fit : (ends : Option (ℤ × ℤ)) → ReadingsOf boxes table ends → AllFit ends entries
     all_fit ends f r = ⊎_elim

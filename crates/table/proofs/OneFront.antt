@@ -1,12 +1,12 @@
 -- The first box of a rank, the readings and the front of a table are each one.
+use Rattle.std.proofs.lemmas.Grind.{common_steps}
 use Rattle.std.proofs.Common.{◌≡◌, ℕ, ◌<◌, false, List, ℤ, ◌≤ℤ◌, Some, None, Option, sym, refl, ap, ◌∙◌, arith}
 use borrow.Author.Differences.{ints}
 use Rattle.std.proofs.lemmas.List.{ext_get_or}
-use Rattle.order.specs.Records.{candidate_before, candidate_key}
+use Rattle.order.specs.Records.{candidate_before}
 use Rattle.order.specs.declared.answer.Answer.{Answer}
 use Rattle.order.specs.declared.records.Candidate.{Candidate}
 use Rattle.order.proofs.Among.{first_among_one}
-use Rattle.order.proofs.Numbers.{numbered_total}
 use Rattle.policy.proofs.Same.{front_same}
 use Rattle.policy.specs.declared.front.Front.{Front}
 use Rattle.table.specs.Boxes.{FirstOfRank}
@@ -14,9 +14,7 @@ use Rattle.table.specs.Fronts.{EntryOf, FrontOf, ReadingsOf, answer_in}
 use Rattle.table.specs.declared.rows.Row.{Row}
 
 pub candidate_total : (a b : Candidate) → candidate_before a b ≡ false → candidate_before b a ≡ false → a ≡ b
-candidate_total a b p q =
-    let same = numbered_total (candidate_key a) (candidate_key b) p q in
-    λ i. record { answer = (same i).answer; row = (same i).number }
+candidate_total a b p q = grind (arith, common_steps)
 
 pub first_one : (n finest boxes : ℕ) (table : List Row) (r : ℕ) (o p : Option Candidate) → FirstOfRank n finest boxes table r o → FirstOfRank n finest boxes table r p → o ≡ p
 first_one n finest boxes table r o p f g = first_among_one candidate_before candidate_total _ o p f g

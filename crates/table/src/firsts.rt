@@ -36,7 +36,7 @@ impl Shape {
         rank
     }
 
-    // The first box of each rank that can be cut, in one pass; rows without an answer are passed over.
+    // The first box of each rank that can be cut, in an array by rank since there is no heap here, in one pass; rows without an answer are passed over.
     pub fn firsts(&self, boxes: &[Row]) -> [Option<Candidate>; RANKS]
         ensures { (r : ℕ) → r < 114 → FirstOfRank self.now.n self.now.finest (length boxes.now) boxes.now r (slice_index_or result r None) }
     {

@@ -3,7 +3,7 @@ ghost use Rattle.std.specs.Prelude.{◌≡◌, MatchOption};
 ghost use Rattle.grid.specs.Grid.{IsInterval};
 ghost use Rattle.order.specs.declared.answer.Answer.{Answer as AnswerKey};
 ghost use Rattle.table.specs.Entries.{answer_of, shown_by, waiting};
-ghost use Rattle.table.specs.Rows.{span_of, whole_grid};
+ghost use Rattle.table.specs.Rows.{row_before, span_of, whole_grid};
 ghost use Rattle.std.proofs.Common.{rules};
 
 use grid::interval::Interval;
@@ -98,6 +98,10 @@ impl Ordered for Row {
     type Key = Answer;
 
     ghost key = { λ r. answer_of r.entry };
+
+    ghost before = { row_before };
+
+    ghost by_key = { Prim.search rules };
 
     ghost total = { Prim.search rules };
 

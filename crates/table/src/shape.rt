@@ -1,6 +1,7 @@
 // How many directions a search has, and how fine its boxes may get.
 ghost use Rattle.std.specs.Prelude.{◌≤◌};
 
+pub mod long;
 pub mod make;
 
 // The number of directions n, and the finest level.

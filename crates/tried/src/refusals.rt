@@ -31,9 +31,9 @@ fn numbers(rt: HostRuntime) {
 
 #[test]
 fn causes_differ(rt: HostRuntime) {
-    for (a, number) in ALL {
-        for (b, other) in ALL {
-            assert_eq!(rt; a == b, number == other);
+    for (i, (a, _)) in ALL.iter().enumerate() {
+        for (j, (b, _)) in ALL.iter().enumerate() {
+            assert_eq!(rt; a == b, i == j);
         }
     }
 }

@@ -1,4 +1,4 @@
-// What is printed of a search.
+// What is printed of a search. Each function that prints takes the console; the table is lent.
 use crate::cell::Cell;
 use crate::cut::Cut;
 use crate::guarantee::{level_after, longest_side, side_at};

@@ -4,7 +4,7 @@ ghost use Rattle.grid.specs.Grid.{IsInterval, cells, cells_at, middle_of};
 
 use super::{CELLS, DEEPEST, Interval};
 
-// The cells of an interval of a level.
+// The cells of an interval of a level. Public it would ask for a level below 20, so others say this line in their own types.
 pub(crate) fn cells_at(level: u8) -> u32
     requires { level ≤ 19 }
     ensures value { result ≡ cells_at level }

@@ -11,6 +11,7 @@ use policy::front::Front;
 use policy::front::levels::LEVELS;
 use std::array;
 
+// An array by level, since there is no heap here.
 // A hull and a front, with the rank that is taken for each level, or none where no rank of it is filled.
 #[derive(Drop)]
 pub(crate) struct Sizes<'a> {

@@ -33,7 +33,7 @@ fn check_reading(answer: Answer, place: usize) -> Result<(), RefusedAt>
     }
 }
 
-// The answer for the middle cell begins the search.
+// The answer for the middle cell begins the search. What is wrong with a beginning names byte 0, whatever item was read, so that the place is no part of what is due.
 fn answer_middle(
     n: u8,
     finest: u8,

@@ -9,28 +9,42 @@ ghost use Rattle.hull.specs.Decide.{hull_ranks};
 use super::Sizes;
 use ranks::rank_set::RankSet;
 
-// Whether drop / length is at most rise / run.
-fn no_steeper(drop: i64, length: i64, rise: i64, run: i64) -> bool
-    requires drop_bound { (neg_ℤ (pos 3000000001) ≤ℤ drop) × (drop ≤ℤ pos 3000000001) }
-    requires rise_bound { (neg_ℤ (pos 3000000001) ≤ℤ rise) × (rise ≤ℤ pos 3000000001) }
-    requires length_bound { (pos 0 ≤ℤ length) × (length ≤ℤ pos 1162261467) }
-    requires run_bound { (pos 0 ≤ℤ run) × (run ≤ℤ pos 1162261467) }
-    ensures { result ≡ int_le (drop *ℤ run) (rise *ℤ length) }
-{
-    drop * run <= rise * length
+// A rise over a run.
+#[derive(Clone, Copy)]
+struct Slope {
+    rise: i64,
+    run: i64,
+    ghost rise_low: { neg_ℤ (pos 3000000001) ≤ℤ rise },
+    ghost rise_high: { rise ≤ℤ pos 3000000001 },
+    ghost run_low: { pos 0 ≤ℤ run },
+    ghost run_high: { run ≤ℤ pos 1162261467 },
+}
+
+impl Slope {
+    // Whether it is at most another.
+    fn is_at_most(&self, other: &Slope) -> bool
+        ensures { result ≡ int_le (self.now.rise *ℤ other.now.run) (other.now.rise *ℤ self.now.run) }
+    {
+        self.rise * other.run <= other.rise * self.run
+    }
 }
 
 impl Sizes<'_> {
+    // The slope from b up to the larger size a.
+    fn slope(&self, a: usize, b: usize) -> Slope
+        ensures { let f = self.now.front.now in (result.rise ≡ value f a -ℤ value f b) × (result.run ≡ pos (size f a - size f b)) }
+    {
+        Slope {
+            rise: self.rise(a, b),
+            run: self.run(a, b),
+        }
+    }
+
     // Whether j's drop to the smaller size s is no steeper than the rise to the larger size i.
     fn is_chord(&self, j: usize, i: usize, s: usize) -> bool
         ensures { let f = self.now.front.now in result ≡ int_le ((value f j -ℤ value f s) *ℤ pos (size f i - size f j)) ((value f i -ℤ value f j) *ℤ pos (size f j - size f s)) }
     {
-        no_steeper(
-            self.rise(j, s),
-            self.run(j, s),
-            self.rise(i, j),
-            self.run(i, j),
-        )
+        self.slope(j, s).is_at_most(&self.slope(i, j))
     }
 
     // Whether j's drop to each smaller size is no steeper than the rise to i.
@@ -50,7 +64,11 @@ impl Sizes<'_> {
     fn is_enough(&self, j: usize, i: usize) -> bool
         ensures { let f = self.now.front.now in Decides result (((value f j -ℤ least f +ℤ margin self.now.hull.share f) *ℤ pos (size f i - size f j)) ≤ℤ (pos (size f j) *ℤ (value f i -ℤ value f j))) }
     {
-        no_steeper(self.over(j), self.size(j), self.rise(i, j), self.run(i, j))
+        let least = Slope {
+            rise: self.over(j),
+            run: self.size(j),
+        };
+        least.is_at_most(&self.slope(i, j))
     }
 
     // Whether j meets the three conditions of the larger size i.

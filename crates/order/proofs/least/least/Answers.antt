@@ -1,8 +1,20 @@
 -- The first of all records, at one place.
-use Rattle.std.proofs.Common.{arith}
+use Rattle.std.proofs.Common.{sym, ◌∙◌, arith}
 use Rattle.std.proofs.lemmas.Bool.Decides.{nat_tests}
+use Rattle.std.proofs.lemmas.List.MinMax.{ranks_by}
 use Rattle.order.proofs.Firsts.{one_first}
+use Rattle.order.proofs.Held.{held_keeps, held_takes}
+use Rattle.order.proofs.Ranked.{ranks}
 use Rattle.order.proofs.least.least.Goals as goal
+use Rattle.order.proofs.least.least.Goals.{then-precedes, else-precedes}
+
+pub loop-i-preserved : goal.loop-i-preserved
+loop-i-preserved g c =
+    let o = ranks (ranks_by g.met.T.Key.Ord.total g.T.Ordered.key) g.met.T.Ordered.by_key in
+    elim c.if-precedes.branch [
+      | then-precedes w ↦ rw w.first-is (held_takes o _ _ _ _ _ c.loop-i.invariant c.loop-i-test.true c.index-records-i.is c.index-records-first.is (sym c.precedes.ensures ∙ w.if-precedes.true))
+      | else-precedes w ↦ rw w.first-is (held_keeps o _ _ _ _ _ c.loop-i.invariant c.loop-i-test.true c.index-records-i.is c.index-records-first.is (sym c.precedes.ensures ∙ w.if-precedes.false))
+    ]
 
 pub returns-clause-first : goal.returns-clause-first
 returns-clause-first g c =

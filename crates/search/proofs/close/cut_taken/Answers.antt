@@ -6,7 +6,7 @@ use Rattle.table.specs.declared.rows.Row.{Row}
 use Rattle.search.specs.Calls.{OwnRound}
 use Rattle.search.specs.declared.states.Round.{Round}
 use Rattle.search.proofs.Slices.{first_in_table}
-use Rattle.search.proofs.Turns.{turns_start, turns_more, turns_end, popped_taking, popped_room, popped_some}
+use Rattle.search.proofs.Turns.{turns_more, turns_end, popped_taking, popped_room, popped_some}
 use Rattle.search.proofs.close.cut_taken.Goals as goal
 
 -- what is found in the slice of the boxes is the first box
@@ -18,9 +18,6 @@ first_box round table own o taken r is f = (
   subst (FirstOfRank round.shape.n round.shape.finest round.boxes table r) is
       (first_in_table round.shape.n round.shape.finest round.boxes table own.own.rows r o f),
 )
-
-pub loop-rank-init : goal.loop-rank-init
-loop-rank-init c = rw c.into_iter-rank-iterator.ensures.into_iter_gives (rw c.members-rank-items.ensures (turns_start c.args.round.now c.args.table.now c.requires))
 
 pub cut-requires : goal.cut-requires
 cut-requires c =
@@ -36,8 +33,9 @@ overflow_add-next c =
 pub loop-rank-preserved-in-Some-firsts : goal.loop-rank-preserved-in-Some-firsts
 loop-rank-preserved-in-Some-firsts c =
     let round = c.args.round.now in let table = c.args.table.now in let low = c.in-Some.ensures.steps in
-    turns_more round table c.requires _ _ _ c.loop-rank.invariant _ low.0 _ (first_box round table c.requires _ _ _ c.in-Some-firsts.is (c.firsts-firsts.ensures _ low.1))
-    _ _ low.1 low.2 c.cut.ensures
+    rw c.long_sides.ensures
+    (turns_more round table c.requires _ _ _ c.loop-rank.invariant _ low.0 _ (first_box round table c.requires _ _ _ c.in-Some-firsts.is (c.firsts-firsts.ensures _ low.1))
+    _ _ low.1 low.2 c.cut.ensures)
 
 pub loop-rank-preserved : goal.loop-rank-preserved
 loop-rank-preserved c =

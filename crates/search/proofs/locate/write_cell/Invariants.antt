@@ -4,4 +4,4 @@ use Rattle.search.specs.Points.{Coordinate}
 use Rattle.search.proofs.locate.write_cell.Given as goal
 
 abbrev pub invariant-loop-e : goal.invariant-loop-e
-invariant-loop-e l = (length l.cell-items ≡ l.n) × ((k : ℕ) → k < l.e → Coordinate l.row l.d l.side k (slice_index l.cell-items k))
+invariant-loop-e l = (length l.cell-items ≡ l.shape.n) × ((k : ℕ) → k < l.e → Coordinate l.row l.d l.side k (slice_index l.cell-items k))

@@ -1,42 +1,21 @@
 -- The box that the point is of, and its cell.
-use Rattle.std.proofs.Common.{ℕ, ◌/◌, T, sym, refl, ap, subst, inr, arith, rules}
-use Rattle.search.proofs.LocateSteps.{at_first, coarse_side, located_in, no_first, side_number}
-use Rattle.search.proofs.Owning.{owned}
+use Rattle.std.proofs.Common.{ℕ, ◌/◌, T, sym, refl, ap, subst, inr}
+use Rattle.search.proofs.LocateSteps.{at_first, located_in, side_number}
 use Rattle.search.proofs.look.Looked.locate.Goals as goal
-
-pub unreachable-requires : goal.unreachable-requires
-unreachable-requires c =
-    let l = c.args.self.now in let q = l.round.now in let s = q.shape in
-    let chosen = c.rank_at-rank.ensures.chosen in
-    no_first s.n s.finest q.boxes l.table.now c.rank_at-rank.result.0 _ l.own (l.found _ chosen.0) ((owned q l.table.now l.firsts l.found l.own l.rows l.present).boxes _ (subst T (sym chosen.1) tt)) (search rules)
 
 pub long_side-d-requires : goal.long_side-d-requires
 long_side-d-requires c =
-    let l = c.args.self.now in let q = l.round.now in let s = q.shape in let t = l.table.now in let r = c.rank_at-rank.result.0 in
+    let l = c.args.self.now in let q = l.round.now in let s = q.shape in let t = l.table.now in let r = c.rank_of-rank.result.0 in
     let first = at_first s.n s.finest q.boxes t r _ c.in-Some.first
-    (l.found r c.rank_at-rank.ensures.chosen.0) c.in-Some.is in (
-      s.few,
-      (
-        ap (λ (x : ℕ). x / s.n) (sym first.1.0.box.ranked),
-        side_number s.n s.finest q.boxes t r c.in-Some.first.row c.rank_at-rank.result.1 s.some s.few l.own first c.rank_at-rank.ensures.among,
-      ),
+    (l.found r c.rank_of-rank.ensures.chosen.0) c.in-Some.is in (
+      ap (λ (x : ℕ). x / s.n) (sym first.1.0.box.ranked),
+      side_number s.n s.finest q.boxes t r c.in-Some.first.row c.rank_of-rank.result.1 s.some s.few l.own first c.rank_of-rank.ensures.among,
     )
-
-pub write_cell-requires : goal.write_cell-requires
-write_cell-requires c =
-    let l = c.args.self.now in let q = l.round.now in let s = q.shape in let t = l.table.now in let r = c.rank_at-rank.result.0 in
-    let first = at_first s.n s.finest q.boxes t r _ c.in-Some.first
-    (l.found r c.rank_at-rank.ensures.chosen.0) c.in-Some.is in
-    record {
-      intervals = λ e h. ((l.own.each c.in-Some.first.row first.1.0.box.within).directions e (omega (arith, s.few))).interval;
-      side = coarse_side s.n s.finest q.boxes t r c.in-Some.first.row c.long_side-d.result s.some s.fine first c.long_side-d.ensures.0;
-      room = (s.few, c.if-cells-n.false);
-    }
 
 pub returns : goal.returns
 returns c =
-    let l = c.args.self.now in let q = l.round.now in let s = q.shape in let t = l.table.now in let r = c.rank_at-rank.result.0 in
-    let chosen = c.rank_at-rank.ensures.chosen in
+    let l = c.args.self.now in let q = l.round.now in let s = q.shape in let t = l.table.now in let r = c.rank_of-rank.result.0 in
+    let chosen = c.rank_of-rank.ensures.chosen in
     let first = at_first s.n s.finest q.boxes t r _ c.in-Some.first
     (l.found r chosen.0) c.in-Some.is in
     inr (
@@ -45,8 +24,8 @@ returns c =
         c.if-cells-n.false,
         (
           refl,
-          located_in q t c.args.point r c.in-Some.first.row c.rank_at-rank.result.1 c.long_side-d.result c.side_of.result c.args.cells.now c.write_cell.new.cells
-              (subst T (sym chosen.1) tt) first c.rank_at-rank.ensures.number c.long_side-d.ensures.0 c.long_side-d.ensures.1 c.side_of.ensures.low c.side_of.ensures.high
+          located_in q t c.args.point r c.in-Some.first.row c.rank_of-rank.result.1 c.long_side-d.result c.side_of.result c.args.cells.now c.write_cell.new.cells
+              (subst T (sym chosen.1) tt) first c.rank_of-rank.ensures.number c.long_side-d.ensures.0 c.long_side-d.ensures.1 c.side_of.ensures.low c.side_of.ensures.high
               c.write_cell.ensures.cell c.write_cell.ensures.same c.write_cell.ensures.after,
         ),
       ),

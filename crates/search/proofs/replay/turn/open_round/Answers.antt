@@ -13,9 +13,5 @@ returns-in-Ok c =
       own = own_opened c.args.cap c.args.by c.args.rest c.args.table.now c.in-Ok.round _ c.requires o.1;
     }
 
-pub returns-in-Err : goal.returns-in-Err
-returns-in-Err c =
-    record {
-      turns = λ d r. named_refused c.args.place c.args.cap c.args.by c.args.rest c.args.table.now c.in-Err.why _ c.requires c.in-Err.ensures r;
-      own = tt;
-    }
+pub returns-in-Err-clause-turns : goal.returns-in-Err-clause-turns
+returns-in-Err-clause-turns c = λ d r. named_refused c.args.place c.args.cap c.args.by c.args.rest c.args.table.now c.in-Err.why _ c.requires c.in-Err.ensures r
