@@ -1,4 +1,5 @@
 // Readings that look random and are the same at each run: those of docs/PERFORMANCE.md, so not `compare`'s generator.
+// The step of the state is written in both: two programs share no file, and a crate for five lines is no plainer.
 
 #[derive(Clone, Copy)]
 pub struct Draw {

@@ -3,7 +3,7 @@ use crate::draw::Draw;
 use crate::halt::Halt;
 use crate::plan::Plan;
 use crate::seen::ROOM;
-use crate::setting::{Setting, plan_at};
+use crate::setting::{Plans, Setting, plan_at};
 use crate::states::{Busy, Calm};
 use crate::tables::Tables;
 use crate::tally::Tally;
@@ -21,10 +21,9 @@ pub struct Desk<'a> {
 impl Desk<'_> {
     // The plan of the next round.
     pub fn plan(&mut self) -> Plan {
-        if self.setting.varied {
-            plan_at(self.draw.below(150))
-        } else {
-            self.setting.plan
+        match self.setting.plans {
+            Plans::Same(plan) => plan,
+            Plans::Drawn(_) => plan_at(self.draw.below(150)),
         }
     }
 

@@ -3,7 +3,7 @@ use crate::draw::Draw;
 use crate::halt::Halt;
 use crate::plan::Plan;
 use crate::runs::Runs;
-use crate::setting::{PLANS, Setting, Style, any_frame, plan_at, style_at};
+use crate::setting::{PLANS, Plans, Setting, Style, any_frame, plan_at, style_at};
 use crate::tables::Tables;
 use crate::tally::Tally;
 use reference::frame::Frame;
@@ -53,10 +53,7 @@ fn beginnings(tally: &mut Tally) -> Result<(), Halt> {
 fn caps(tally: &mut Tally) -> Result<(), Halt> {
     tally.next_run(None);
     for most in 0..=255u8 {
-        tally.make(Plan {
-            caps: [Some(most), None],
-            ..Plan::EVERY
-        })?;
+        tally.make(Plan::EVERY.under(most))?;
     }
     Ok(())
 }
@@ -65,23 +62,19 @@ fn caps(tally: &mut Tally) -> Result<(), Halt> {
 fn shares(tally: &mut Tally) -> Result<(), Halt> {
     tally.next_run(None);
     for share in [0, 1, 9_999, 10_000, 10_001, 32_768, 65_535] {
-        tally.make(Plan {
-            share: Some(share),
-            ..Plan::EVERY
-        })?;
+        tally.make(Plan::hull(share))?;
     }
     Ok(())
 }
 
 // A run of more than a thousand boxes, if the policy opens large rounds.
-fn large(n: u8, finest: u8, plan: u64, style: Style) -> Setting {
+fn large(n: u8, finest: u8, plan: Plan, style: Style) -> Setting {
     Setting {
         frame: Frame { n, finest },
         rows: 1_200,
         rounds: 200,
-        plan: plan_at(plan),
+        plans: Plans::Same(plan),
         style,
-        varied: false,
         crafted: false,
         mischief: Some(200),
     }
@@ -96,9 +89,8 @@ impl Runs<'_> {
                 frame,
                 rows: draw.place(50).saturating_add(12),
                 rounds: 3,
-                plan: plan_at(number),
+                plans: Plans::Same(plan_at(number)),
                 style: style_at(self.tally.run),
-                varied: false,
                 crafted: draw.once_in(3),
                 mischief: draw.once_in(2).then_some(10),
             })?;
@@ -124,9 +116,8 @@ impl Runs<'_> {
                 frame: any_frame(&mut draw),
                 rows: draw.place(90),
                 rounds: 12,
-                plan: plan_at(draw.below(PLANS)),
+                plans: Plans::Drawn(plan_at(draw.below(PLANS))),
                 style: style_at(draw.number()),
-                varied: true,
                 crafted: draw.once_in(2),
                 mischief: Some(draw.below(12)).filter(|times| *times > 0),
             })?;
@@ -141,9 +132,8 @@ impl Runs<'_> {
                 frame: Frame { n: 1, finest },
                 rows: 450,
                 rounds: 22,
-                plan: plan_at(0),
+                plans: Plans::Same(Plan::EVERY),
                 style: style_at(self.tally.run),
-                varied: false,
                 crafted: false,
                 mischief: Some(100),
             })?;
@@ -154,16 +144,16 @@ impl Runs<'_> {
     // Large runs.
     fn larges(&mut self) -> Result<(), Halt> {
         for setting in [
-            large(1, 19, 0, Style::Wide),
-            large(1, 6, 0, Style::Bowl),
-            large(2, 19, 0, Style::Bowl),
-            large(2, 3, 1, Style::Bowl),
-            large(3, 19, 0, Style::Mixed),
-            large(3, 19, 3, Style::Bowl),
-            large(4, 10, 18, Style::Few),
-            large(5, 19, 4, Style::Bowl),
-            large(6, 19, 0, Style::Equal),
-            large(6, 2, 5, Style::Mixed),
+            large(1, 19, Plan::EVERY, Style::Wide),
+            large(1, 6, Plan::EVERY, Style::Bowl),
+            large(2, 19, Plan::EVERY, Style::Bowl),
+            large(2, 3, Plan::hull(0), Style::Bowl),
+            large(3, 19, Plan::EVERY, Style::Mixed),
+            large(3, 19, Plan::hull(100), Style::Bowl),
+            large(4, 10, Plan::EVERY.under(3), Style::Few),
+            large(5, 19, Plan::hull(1_000), Style::Bowl),
+            large(6, 19, Plan::EVERY, Style::Equal),
+            large(6, 2, Plan::hull(10_000), Style::Mixed),
         ] {
             self.run(setting)?;
         }

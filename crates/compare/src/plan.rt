@@ -71,6 +71,22 @@ impl Plan {
         caps: [None, None],
     };
 
+    // Hull of a share, without a cap.
+    pub fn hull(share: u16) -> Plan {
+        Plan {
+            share: Some(share),
+            caps: [None, None],
+        }
+    }
+
+    // The same policy under one cap.
+    pub fn under(self, most: u8) -> Plan {
+        Plan {
+            share: self.share,
+            caps: [Some(most), None],
+        }
+    }
+
     // Makes its policies by the package.
     pub fn make(self) -> Result<(), Refusal> {
         if let Some(share) = self.share {

@@ -120,7 +120,7 @@ impl Desk<'_> {
 
     // A search.
     fn search(&mut self) -> Result<(), Halt> {
-        self.tally.make(self.setting.plan)?;
+        self.tally.make(self.setting.plans.first())?;
         match self.begun()? {
             Some(calm) => self.rounds(calm),
             None => Ok(()),

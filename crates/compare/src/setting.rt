@@ -51,15 +51,40 @@ const EDGES: [Answer; 4] = [
 // Numbers that are no readings.
 const WRONG: [i32; 4] = [1_000_000_001, -1_000_000_001, i32::MAX, i32::MIN];
 
+// By which plan the rounds are opened.
+#[derive(Clone, Copy)]
+pub enum Plans {
+    // each round by this one
+    Same(Plan),
+    // each round by a drawn one; this one is made before the first
+    Drawn(Plan),
+}
+
+impl Plans {
+    // The plan that is made before the first round.
+    pub fn first(self) -> Plan {
+        match self {
+            Plans::Same(plan) | Plans::Drawn(plan) => plan,
+        }
+    }
+}
+
+impl fmt::Display for Plans {
+    fn fmt<W: fmt::Write>(&self, f: &mut fmt::Formatter<W>) -> fmt::Result {
+        match self {
+            Plans::Same(plan) => write!(f, "{plan}"),
+            Plans::Drawn(plan) => write!(f, "{plan}, then drawn ones"),
+        }
+    }
+}
+
 #[derive(Clone, Copy)]
 pub struct Setting {
     pub frame: Frame,
     pub rows: usize,
     pub rounds: usize,
-    pub plan: Plan,
+    pub plans: Plans,
     pub style: Style,
-    // whether each round has another plan
-    pub varied: bool,
     // whether the boxes are replaced by others before each round
     pub crafted: bool,
     // a wrong call once in so many steps, if at all
@@ -72,15 +97,13 @@ impl fmt::Display for Setting {
             frame,
             rows,
             rounds,
-            plan,
+            plans,
             style,
-            varied,
             crafted,
             mischief,
         } = *self;
-        write!(f, "{frame} rows {rows} rounds {rounds} {plan}")?;
-        write!(f, " answers {style:?} varied {varied}")?;
-        write!(f, " crafted {crafted}")?;
+        write!(f, "{frame} rows {rows} rounds {rounds} {plans}")?;
+        write!(f, " answers {style:?} crafted {crafted}")?;
         match mischief {
             Some(times) => write!(f, " wrong calls 1 in {times}"),
             None => write!(f, " no wrong calls"),

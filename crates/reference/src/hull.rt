@@ -51,7 +51,9 @@ impl Front {
     fn value(&self, answer: Answer) -> i128 {
         match answer {
             Answer::Reading(x) => i128::from(x),
-            Answer::NotFeasible => self.greatest.map_or(0, |x| i128::from(x).wrapping_add(1)),
+            Answer::NotFeasible => self
+                .readings
+                .map_or(0, |(_, greatest)| i128::from(greatest).wrapping_add(1)),
         }
     }
 
@@ -66,7 +68,7 @@ impl Front {
 
     // The least reading less the margin.
     fn floor(&self, share: u16) -> i128 {
-        let least = self.least.map_or(0, i128::from);
+        let least = self.readings.map_or(0, |(least, _)| i128::from(least));
         let margin = least.wrapping_abs().wrapping_mul(i128::from(share)) / 10_000;
         least.wrapping_sub(margin)
     }

@@ -94,7 +94,7 @@ fn push_box(out: &mut String, shape: Shape, j: usize, row: &Row) -> Result<(), A
     let answer = row.entry.answer();
     let sides = Sides {
         row: *row,
-        n: shape.n as usize,
+        n: usize::from(shape.n),
     };
     write!(out, "{j} {answer}{sides}\n")
 }

@@ -12,13 +12,12 @@ pub(crate) fn cut_taken(round: &Round, table: &mut [Row])
     requires { OwnRound round.now table.old }
     ensures { CutAll round.now table.old table.new }
 {
-    let n = round.shape.n as usize;
     let firsts = round.shape.firsts(&table[..round.boxes]);
     let mut next = round.boxes;
     for rank in round.chosen.members() {
         if let Some(taken) = firsts[rank] {
             let cut = TakenBox {
-                n,
+                shape: round.shape,
                 row: taken.row,
                 rank,
                 base: next,

@@ -77,10 +77,10 @@ fn cut_along(table: &mut [Row], j: usize, sides: &[LongSide])
 impl TakenBox {
     // Cuts it along its long sides.
     pub fn cut(&self, table: &mut [Row])
-        requires { Taking self.now.n self.now.rank table.old self.now.row self.now.base }
-        ensures { CutBox self.now.n table.old self.now.row self.now.base table.new }
+        requires { Taking self.now.shape.n self.now.rank table.old self.now.row self.now.base }
+        ensures { CutBox self.now.shape.n table.old self.now.row self.now.base table.new }
     {
         let sides = self.cut_order(table);
-        cut_along(table, self.row, &sides[..self.n - self.rank % self.n]);
+        cut_along(table, self.row, &sides[..self.shape.long_sides(self.rank)]);
     }
 }

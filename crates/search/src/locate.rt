@@ -113,7 +113,7 @@ impl Looked<'_> {
         ensures { LocatesIn self.now.round.now self.now.table.now point cells.old result cells.new }
     {
         let round = self.round;
-        let n = round.shape.n as usize;
+        let n = usize::from(round.shape.n);
         if point >= round.points {
             return Err(Refusal::NoSuchPoint);
         }

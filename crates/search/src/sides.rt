@@ -8,6 +8,7 @@ use order::arrange::arrange;
 use order::ordered::Ordered;
 use order::records::Direction;
 use table::rows::{Row, SIDES};
+use table::shape::Shape;
 
 // A long side of a taken box: its direction, and the row of its low point; the high point's row is the next.
 #[derive(Clone, Copy)]
@@ -16,11 +17,11 @@ pub(crate) struct LongSide {
     pub row: usize,
 }
 
-// A taken box: the directions of its search, its row, its rank, and the row of its first point.
+// A taken box: the shape of its search, its row, its rank, and the row of its first point.
 // How it stands in the table is a condition and no field: the table is written while it is cut.
 #[derive(Clone, Copy)]
 pub(crate) struct TakenBox {
-    pub n: usize,
+    pub shape: Shape,
     pub row: usize,
     pub rank: usize,
     pub base: usize,
@@ -58,11 +59,12 @@ fn side(table: &[Row], number: usize, row: usize) -> LongSide
 impl TakenBox {
     // Its long sides by rising direction, in an array since this crate has no heap; what stands past them is of no account.
     fn long_sides(&self, table: &[Row]) -> [LongSide; SIDES]
-        requires { Taking self.now.n self.now.rank table.now self.now.row self.now.base }
-        ensures { Gathered self.now.n table.now self.now.row self.now.base result }
+        requires { Taking self.now.shape.n self.now.rank table.now self.now.row self.now.base }
+        ensures { Gathered self.now.shape.n table.now self.now.row self.now.base result }
     {
         let spans = table[self.row].spans;
-        let level = self.rank / self.n;
+        let n = self.shape.n as usize;
+        let level = self.rank / n;
         let none = Direction {
             w: Answer::NotFeasible,
             number: 0,
@@ -73,7 +75,7 @@ impl TakenBox {
         }; SIDES];
         let mut count = 0;
         // A slice of the spans would have to be shown long enough: a table's row does not say that it has six.
-        for d in 0..self.n {
+        for d in 0..n {
             if usize::from(spans[d].level) == level {
                 sides[count] = side(table, d, self.base + 2 * count);
                 count += 1;
@@ -84,11 +86,11 @@ impl TakenBox {
 
     // Its long sides in the order of cutting.
     pub fn cut_order(&self, table: &[Row]) -> [LongSide; SIDES]
-        requires { Taking self.now.n self.now.rank table.now self.now.row self.now.base }
-        ensures { InCutOrder self.now.n table.now self.now.row self.now.base (take (self.now.n - self.now.rank % self.now.n) result) }
+        requires { Taking self.now.shape.n self.now.rank table.now self.now.row self.now.base }
+        ensures { InCutOrder self.now.shape.n table.now self.now.row self.now.base (take (self.now.shape.n - self.now.rank % self.now.shape.n) result) }
     {
         let mut sides = self.long_sides(table);
-        arrange(&mut sides[..self.n - self.rank % self.n]);
+        arrange(&mut sides[..self.shape.long_sides(self.rank)]);
         sides
     }
 }

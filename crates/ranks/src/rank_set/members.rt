@@ -29,6 +29,7 @@ impl RankSet {
     }
 
     // Puts a rank in; a number from 114 on is no rank, and changes nothing.
+    // A set is filled by a loop of this: the library's `FromIterator` takes an allocator and may find no memory, and a set has neither.
     pub fn insert(&mut self, rank: usize)
         ensures put { rank < 114 → ranks self.new ≡ with (ranks self.old) rank }
         ensures same { 114 ≤ rank → self.new ≡ self.old }

@@ -1,4 +1,4 @@
-// What an item of a record makes of what is due.
+// What an item of a record makes of what is due. Each refusal gets its place where it arises: `map_err` would say the same at the same length.
 ghost use Rattle.std.specs.Prelude.{◌≡◌, List, T, Decides, Ok, Err};
 ghost use Rattle.order.specs.Answers.{allowed};
 ghost use Rattle.refusal.specs.declared.Refusal.TheVariants.{ReadingOutOfRange};
