@@ -6,11 +6,12 @@ use crate::tables::Tables;
 use order::answer::Answer;
 use policy::every::Every;
 use reference::frame::Frame;
-use reference::lines::{Answer as Said, Table};
+use reference::lines::{Answer as Said, Line, Table};
 use reference::policies::Policy;
 use reference::still::Still;
 use search::begin::begin;
 use search::states::Rest;
+use std::alloc::Global;
 use std::rt::Clock;
 use table::rows::Row;
 
@@ -71,10 +72,11 @@ fn search(boxes: usize, table: &mut [Row]) -> Result<usize, Fail> {
 }
 
 // The same by the second implementation.
-fn search_again(boxes: usize, mut table: Table<'_>) -> Result<usize, Fail> {
+fn search_again(heap: Global, boxes: usize, lines: &mut [Line]) -> Result<usize, Fail> {
     let mut draw = Draw::new(7);
     let frame = Frame { n: 4, finest: 19 };
-    let still = Still::begin(frame, Said::Reading(draw.reading()), &mut table)?;
+    let still = Still::begin(frame, Said::Reading(draw.reading()), lines)?;
+    let table = Table { heap, lines };
     let still = play_up_to(&mut Theirs { table, draw }, still, boxes)?;
     Ok(still.boxes)
 }
@@ -88,11 +90,8 @@ pub fn time_searches(
     let mut tables = Tables::new(heap)?;
     let rows = tables.rows.as_mut_slice();
     let (found, ours) = timed(rt, || search(boxes, rows))?;
-    let table = Table {
-        heap,
-        lines: tables.lines.as_mut_slice(),
-    };
-    let (again, theirs) = timed(rt, || search_again(boxes, table))?;
+    let lines = tables.lines.as_mut_slice();
+    let (again, theirs) = timed(rt, || search_again(heap, boxes, lines))?;
     if found != again {
         return Err(Fail::Other);
     }

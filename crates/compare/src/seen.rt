@@ -39,9 +39,9 @@ pub struct Asked {
     pub rows: usize,
 }
 
-// The ranks that a round cuts: whether each is one of them.
+// The ranks that a round cuts: whether each is one of them, and last whether any other number is, which is no rank.
 #[derive(Clone, Copy, PartialEq, Eq)]
-pub struct Chosen([bool; RANKS]);
+pub struct Chosen([bool; RANKS + 1]);
 
 // The numbers of a search; at rest no rank is chosen, and there is no point.
 #[derive(Clone, Copy, PartialEq, Eq)]
@@ -95,7 +95,7 @@ impl Asked {
 }
 
 impl Chosen {
-    const NONE: Chosen = Chosen([false; RANKS]);
+    const NONE: Chosen = Chosen([false; RANKS + 1]);
 
     pub fn of<I: Iterator<Item = usize>>(ranks: I) -> Chosen
         requires can { I.can_next ranks }
@@ -103,7 +103,7 @@ impl Chosen {
     {
         let mut chosen = Chosen::NONE;
         for rank in ranks {
-            if let Some(is_chosen) = chosen.0.get_mut(rank) {
+            if let Some(is_chosen) = chosen.0.get_mut(rank.min(RANKS)) {
                 *is_chosen = true;
             }
         }

@@ -2,7 +2,7 @@
 use crate::draw::Draw;
 use crate::halt::Halt;
 use order::answer::Answer as Measured;
-use reference::lines::{Answer, Line, Side, Table, WIDTH};
+use reference::lines::{Answer, Line, Mark, Rows, Side, Table, WIDTH};
 use std::alloc::Global;
 use table::rows::{Entry, Row, Span};
 
@@ -16,7 +16,7 @@ pub fn measured(answer: Answer) -> Measured {
 
 // The row of a line. This function and the next are all that knows how a row is made.
 fn row_of(line: &Line) -> Row {
-    let entry = match line.answer {
+    let entry = match line.mark.answer() {
         Some(answer) => Entry::Answered(measured(answer)),
         None => Entry::Waiting,
     };
@@ -39,7 +39,8 @@ pub fn line_of(row: &Row) -> Line {
         first: span.first,
         level: span.level,
     });
-    Line { sides, answer }
+    let mark = Mark::from(answer);
+    Line { sides, mark }
 }
 
 // Two lists of one length: each side is lent a slice of rows of its own kind.
@@ -97,7 +98,7 @@ fn change(draw: &mut Draw, line: &mut Line) {
         5 => side.first = side.first.wrapping_add(1),
         6 => side.first = draw.word(),
         7 => side.level = 20,
-        _ => line.answer = any_answer(draw),
+        _ => line.mark = Mark::from(any_answer(draw)),
     }
 }
 
@@ -159,6 +160,14 @@ impl Pair<'_> {
         Table {
             heap,
             lines: &mut *self.lines,
+        }
+    }
+
+    // The same, to be read.
+    pub fn second_rows(&self, heap: Global) -> Rows<'_> {
+        Rows {
+            heap,
+            lines: self.lines,
         }
     }
 

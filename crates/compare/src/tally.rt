@@ -4,8 +4,7 @@ use crate::seen::{Asked, Beside, Call, Difference, Seen};
 use crate::setting::Setting;
 use crate::tables::{Pair, line_of};
 use crate::why::Why;
-use reference::stop::Cause;
-use std::alloc::Global;
+use std::alloc::{AllocError, Global};
 use std::collections::BTreeMap;
 
 mod calls;
@@ -96,22 +95,30 @@ impl Tally {
         self.compare(Asked { call, rows: 0 }, package, Beside::Docs, docs)
     }
 
-    // Compares why the last call was refused, if it was, with what docs/ says.
-    pub fn told_why(&self, call: Call, docs: Option<Cause>) -> Result<(), Halt> {
+    // Compares why the last call was refused, if it was, with the number that docs/ gives.
+    pub fn told_why(&self, call: Call, docs: Option<u8>) -> Result<(), Halt> {
         let package = self.last.map_or(Seen::Done, Seen::Refused);
-        self.told(call, package, docs.map_or(Seen::Done, Seen::from))
+        let docs = docs.map(Why::told);
+        self.told(call, package, docs.map_or(Seen::Done, Seen::Refused))
     }
 
-    // Counts a call, and compares what both gave.
-    fn see(&mut self, asked: Asked, package: Seen, reference: Seen) -> Result<(), Halt> {
-        self.calls = self.calls.saturating_add(1);
-        self.number = self.number.saturating_add(1);
-        self.last = package.why();
+    // Counts the last call under its cause, if it was refused.
+    fn count_refusal(&mut self) -> Result<(), AllocError> {
         if let Some(why) = self.last {
             let count = self.refusals.entry(why)?.or_insert(0);
             *count = count.saturating_add(1);
         }
-        self.same(asked, package, reference)
+        Ok(())
+    }
+
+    // Counts a call, and compares what both gave. A difference is told even where there is no memory to count.
+    fn see(&mut self, asked: Asked, package: Seen, reference: Seen) -> Result<(), Halt> {
+        self.calls = self.calls.saturating_add(1);
+        self.number = self.number.saturating_add(1);
+        self.last = package.why();
+        let counted = self.count_refusal();
+        self.same(asked, package, reference)?;
+        Ok(counted?)
     }
 
     // Compares the tables, row by row.

@@ -7,6 +7,13 @@ use std::fmt;
 #[derive(Clone, Copy, Debug, PartialEq, Eq, PartialOrd, Ord)]
 pub struct Why(u8);
 
+impl Why {
+    // The cause that docs/ gives a number.
+    pub fn told(number: u8) -> Why {
+        Why(number)
+    }
+}
+
 impl From<Refusal> for Why {
     fn from(refusal: Refusal) -> Why {
         Why(refusal.number())

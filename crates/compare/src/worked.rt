@@ -8,7 +8,6 @@ use crate::tables::Tables;
 use crate::tally::Tally;
 use reference::frame::Frame;
 use reference::lines::{Answer, Line, Side};
-use reference::stop::Cause;
 
 // An example on tables of its own.
 #[derive(Drop)]
@@ -124,7 +123,7 @@ fn just_enough(tally: &mut Tally) -> Result<(), Halt> {
     let Err(calm) = example.tried(calm, Plan::EVERY, 4)? else {
         return Err(Halt::Stuck);
     };
-    example.tally.told_why(call, Some(Cause::NoRoom))?;
+    example.tally.told_why(call, Some(7))?;
     let _busy = example.opened(calm, Plan::EVERY)?;
     example.tally.told_why(call, None)
 }
@@ -137,7 +136,7 @@ fn soon_finished(tally: &mut Tally) -> Result<(), Halt> {
     let calm = example.closed(busy, &[4, 6])?;
     let _refused = example.tried(calm, Plan::EVERY, usize::MAX)?;
     let call = Call::Open(Plan::EVERY);
-    example.tally.told_why(call, Some(Cause::AllFinished))
+    example.tally.told_why(call, Some(6))
 }
 
 // Hull with a share chooses some of the ranks 0, 1 and 2 of one direction.
@@ -187,13 +186,13 @@ fn first_check_counts(tally: &mut Tally) -> Result<(), Halt> {
     let answer = Answer::Reading(2_000_000_000);
     let mut none = Tables::new(tally.heap, &mut Draw::new(5), 0)?;
     let _refused = tally.begin(frame, answer, &mut none.all())?;
-    tally.told_why(Call::Begin(frame, answer), Some(Cause::Directions))?;
+    tally.told_why(Call::Begin(frame, answer), Some(1))?;
     let mut example = tally.example(5, 9)?;
     let calm = example.begun(Frame { n: 2, finest: 19 }, 0)?;
     let busy = example.opened(calm, Plan::EVERY)?;
     let Example { tally, tables: _ } = example;
     tally.answer(&busy, 99, answer, &mut none.all())?;
-    tally.told_why(Call::Answer(99, answer), Some(Cause::NoReading))
+    tally.told_why(Call::Answer(99, answer), Some(4))
 }
 
 // All worked examples.

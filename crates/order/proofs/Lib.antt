@@ -1,5 +1,5 @@
 pub mod Among
+pub mod Arranged
 pub mod Firsts
-pub mod Held
 pub mod Numbers
 pub mod Ranked

@@ -8,6 +8,7 @@ use std::fmt;
 pub const GREATEST_READING: i32 = 1_000_000_000;
 
 // The derived order is the rule: readings by value, and the mark after all of them, where an `Option` has its none first.
+// `is_before` says the same under contract, and is written out: by the derived order a search for the first took half as long again.
 #[derive(Clone, Copy, PartialEq, Eq, PartialOrd, Ord, Debug)]
 pub enum Answer {
     Reading(i32),
@@ -29,14 +30,18 @@ impl Answer {
     pub fn is_before(self, other: Answer) -> bool
         ensures { result ≡ answer_before self other }
     {
-        self < other
+        match (self, other) {
+            (Answer::Reading(a), Answer::Reading(b)) => a < b,
+            (Answer::Reading(_), Answer::NotFeasible) => true,
+            (Answer::NotFeasible, _) => false,
+        }
     }
 
     // Whether it goes before another, or by the lower number where neither answer goes before.
     pub fn is_before_at(self, number: usize, other: Answer, other_number: usize) -> bool
         ensures { result ≡ numbered_before (record { answer = self; number = number }) (record { answer = other; number = other_number }) }
     {
-        (self, number) < (other, other_number)
+        self.is_before(other) || (!other.is_before(self) && number < other_number)
     }
 }
 

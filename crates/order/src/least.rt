@@ -7,18 +7,17 @@ use crate::ordered::Ordered;
 
 // Where the first of some records stands, of equals the earliest place; none where there is no record.
 pub fn least<T: Ordered>(records: &[T]) -> Option<usize>
-    ensures first { MatchOption result (length records.now ≡ 0) (λ i. IsFirst T.before records.now i) }
-    ensures only { MatchOption result (length records.now ≡ 0) (λ i. (j : ℕ) → IsFirst T.before records.now j → j ≡ i) }
-    ensures laws { KeyLaws T.key T.before }
+    ensures first { MatchOption result (length records.now ≡ 0) (λ i. IsFirst (λ a b. T.before (T.key a) (T.key b)) records.now i) }
+    ensures only { MatchOption result (length records.now ≡ 0) (λ i. (j : ℕ) → IsFirst (λ a b. T.before (T.key a) (T.key b)) records.now j → j ≡ i) }
+    ensures laws { KeyLaws T.key (λ a b. T.before (T.key a) (T.key b)) }
 {
-    if records.is_empty() {
-        return None;
-    }
+    let (mut best, later) = records.split_first()?;
     // Tried with the library's `min_by_key`: that the earliest of equals is taken stays open there.
     let mut first = 0;
-    for (i, record) in records.iter().enumerate() {
-        if record.precedes(&records[first]) {
-            first = i;
+    for (i, record) in later.iter().enumerate() {
+        if record.precedes(best) {
+            best = record;
+            first = i + 1;
         }
     }
     Some(first)
@@ -26,7 +25,8 @@ pub fn least<T: Ordered>(records: &[T]) -> Option<usize>
 
 // The first of some records, or none where there is no record.
 pub fn first_of<T: Ordered + Copy>(records: &[T]) -> Option<T>
-    ensures { FirstOf T.before records.now result }
+    ensures { FirstOf (λ a b. T.before (T.key a) (T.key b)) records.now result }
 {
-    least(records).map(|i| records[i])
+    let i = least(records)?;
+    Some(records[i])
 }

@@ -1,30 +1,24 @@
-// Records that go by a key, whose order is total.
-ghost use Rattle.std.specs.Prelude.{◌≡◌, Bool};
-ghost use Rattle.std.specs.Ordering.{is_lt};
-ghost use Rattle.std.specs.declared.cmp.Ordering.TheVariants.{Equal};
+// Records whose order is total, by a key.
+ghost use Rattle.std.specs.Prelude.{◌≡◌, Bool, true, false};
 
 pub trait Ordered {
-    // what a record goes by; its order is total, by the laws of every `Ord`
-    type Key: Ord + Drop;
+    // what a record goes by
+    ghost Key: { Type 0 };
 
-    ghost key: { Self → Self.Key };
+    ghost key: { Self → Key };
 
-    // the order, in the words of the rules
-    ghost before: { Self → Self → Bool };
-
-    fn key(&self) -> Self::Key
-        ensures { result ≡ key self.now };
+    ghost before: { Key → Key → Bool };
 
     // Whether it is before another.
-    final fn precedes(&self, other: &Self) -> bool
-        ensures { result ≡ before self.now other.now }
-    {
-        self.key() < other.key()
-    }
+    fn precedes(&self, other: &Self) -> bool
+        ensures { result ≡ before (key self.now) (key other.now) };
 
-    // a record is before another where its key is less
-    ghost by_key: { (a b : Self) → is_lt (Self.Key.cmp (key a) (key b)) ≡ before a b };
+    // no record is before itself
+    ghost irreflexive: { (a : Self) → before (key a) (key a) ≡ false };
+
+    // before carries over from a to b to c
+    ghost transitive: { (a b c : Self) → before (key a) (key b) ≡ true → before (key b) (key c) ≡ true → before (key a) (key c) ≡ true };
 
     // two records with neither before have the same key
-    ghost total: { (a b : Self) → Self.Key.cmp (key a) (key b) ≡ Equal → key a ≡ key b };
+    ghost total: { (a b : Self) → before (key a) (key b) ≡ false → before (key b) (key a) ≡ false → key a ≡ key b };
 }

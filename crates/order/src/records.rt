@@ -1,7 +1,8 @@
 // Boxes, directions and ranks, each by an answer and then by the lower number.
-ghost use Rattle.std.specs.Prelude.{◌≡◌, is_none};
-ghost use Rattle.order.specs.Answers.{answer_before, earlier_answer, entry_before};
-ghost use Rattle.order.specs.Records.{candidate_before, direction_before, rank_before};
+ghost use Rattle.std.specs.Prelude.{◌≡◌, Option as Entry};
+ghost use Rattle.order.specs.Answers.{Numbered, answer_before, earlier_answer, entry_before, numbered_before};
+ghost use Rattle.order.specs.Records.{candidate_key, direction_key, rank_key};
+ghost use Rattle.order.specs.declared.answer.Answer.{Answer as AnswerKey};
 ghost use Rattle.std.proofs.Common.{rules};
 
 use crate::answer::Answer;
@@ -34,90 +35,104 @@ impl Direction {
         ensures w { result.w ≡ earlier_answer low high }
         ensures number { result.number ≡ number }
     {
-        let w = low.min(high);
+        let w = if high.is_before(low) { high } else { low };
         Direction { w, number }
     }
 }
 
 impl Ordered for Answer {
-    type Key = Answer;
+    ghost Key = { AnswerKey };
 
     ghost key = { λ a. a };
 
     ghost before = { answer_before };
 
-    ghost by_key = { Prim.search rules };
+    ghost irreflexive = { Prim.search rules };
+
+    ghost transitive = { Prim.search rules };
 
     ghost total = { Prim.search rules };
 
-    fn key(&self) -> Answer {
-        *self
+    fn precedes(&self, other: &Answer) -> bool {
+        self.is_before(*other)
     }
 }
 
 // Entries go by their answers, empty ones last; among equal answers `least` takes the earlier place.
 impl Ordered for Option<Answer> {
-    type Key = (bool, Option<Answer>);
+    ghost Key = { Entry AnswerKey };
 
-    ghost key = { λ e. (is_none e, e) };
+    ghost key = { λ e. e };
 
     ghost before = { entry_before };
 
-    ghost by_key = { Prim.search rules };
+    ghost irreflexive = { Prim.search rules };
+
+    ghost transitive = { Prim.search rules };
 
     ghost total = { Prim.search rules };
 
-    fn key(&self) -> (bool, Option<Answer>) {
-        (self.is_none(), *self)
+    fn precedes(&self, other: &Option<Answer>) -> bool {
+        match (*self, *other) {
+            (Some(a), Some(b)) => a.is_before(b),
+            (Some(_), None) => true,
+            (None, _) => false,
+        }
     }
 }
 
 // A candidate, a direction and a rank's entry are kinds of their own, which no call may take for one another.
-// A derived order would be no shorter: an impl would say its key and its order all the same.
 impl Ordered for Candidate {
-    type Key = (Answer, usize);
+    ghost Key = { Numbered };
 
-    ghost key = { λ c. (c.answer, c.row) };
+    ghost key = { candidate_key };
 
-    ghost before = { candidate_before };
+    ghost before = { numbered_before };
 
-    ghost by_key = { Prim.search rules };
+    ghost irreflexive = { Prim.search rules };
+
+    ghost transitive = { Prim.search rules };
 
     ghost total = { Prim.search rules };
 
-    fn key(&self) -> (Answer, usize) {
-        (self.answer, self.row)
+    fn precedes(&self, other: &Candidate) -> bool {
+        self.answer.is_before_at(self.row, other.answer, other.row)
     }
 }
 
 impl Ordered for Direction {
-    type Key = (Answer, usize);
+    ghost Key = { Numbered };
 
-    ghost key = { λ d. (d.w, d.number) };
+    ghost key = { direction_key };
 
-    ghost before = { direction_before };
+    ghost before = { numbered_before };
 
-    ghost by_key = { Prim.search rules };
+    ghost irreflexive = { Prim.search rules };
+
+    ghost transitive = { Prim.search rules };
 
     ghost total = { Prim.search rules };
 
-    fn key(&self) -> (Answer, usize) {
-        (self.w, self.number)
+    fn precedes(&self, other: &Direction) -> bool {
+        self.w.is_before_at(self.number, other.w, other.number)
     }
 }
 
 impl Ordered for RankEntry {
-    type Key = (Answer, usize);
+    ghost Key = { Numbered };
 
-    ghost key = { λ e. (e.answer, e.rank) };
+    ghost key = { rank_key };
 
-    ghost before = { rank_before };
+    ghost before = { numbered_before };
 
-    ghost by_key = { Prim.search rules };
+    ghost irreflexive = { Prim.search rules };
+
+    ghost transitive = { Prim.search rules };
 
     ghost total = { Prim.search rules };
 
-    fn key(&self) -> (Answer, usize) {
-        (self.answer, self.rank)
+    fn precedes(&self, other: &RankEntry) -> bool {
+        self.answer
+            .is_before_at(self.rank, other.answer, other.rank)
     }
 }

@@ -84,7 +84,7 @@ impl Table<'_> {
     }
 
     // Cuts the boxes of some rows; the lines of their points start at a row.
-    pub(crate) fn cut(
+    pub fn cut(
         &mut self,
         pieces: &mut [Piece],
         rows: &[usize],

@@ -43,35 +43,46 @@ pub fn interval(heap: Global, side: Side) -> Result<Option<Digits>, AllocError> 
     Ok(Some(digits))
 }
 
+impl From<Third> for u32 {
+    fn from(third: Third) -> u32 {
+        third as u32
+    }
+}
+
 // The number of the digits with one digit after them as often as there is room.
-fn filled(digits: &[Third], with: Third) -> u32 {
+fn filled<D: Copy + Into<u32>>(digits: &[D], with: u32) -> u32 {
     digits
         .iter()
-        .copied()
+        .map(|digit| (*digit).into())
         .chain(iter::repeat(with))
         .take(MOST)
-        .fold(0u32, |number, third| {
-            number.wrapping_mul(3).wrapping_add(third as u32)
+        .fold(0u32, |number, digit| {
+            number.wrapping_mul(3).wrapping_add(digit)
         })
 }
 
+// The first cell.
+pub fn first_cell<D: Copy + Into<u32>>(digits: &[D]) -> u32 {
+    filled(digits, Third::Low.into())
+}
+
 // The middle cell: in the middle third, of that in the middle third, and so on.
-pub fn middle_cell(digits: &[Third]) -> u32 {
-    filled(digits, Third::Middle)
+pub fn middle_cell<D: Copy + Into<u32>>(digits: &[D]) -> u32 {
+    filled(digits, Third::Middle.into())
 }
 
 // A third of an interval.
-pub(crate) fn part(heap: Global, digits: &[Third], which: Third) -> Result<Digits, AllocError> {
+pub fn part<D: Copy>(heap: Global, digits: &[D], which: D) -> Result<Vec<D>, AllocError> {
     let mut all = Vec::from_slice(heap, digits)?;
     all.push(which)?;
     Ok(all)
 }
 
 // The first cell and the level of an interval.
-impl From<&Digits> for Side {
-    fn from(digits: &Digits) -> Side {
+impl<D: Copy + Into<u32>> From<&Vec<D>> for Side {
+    fn from(digits: &Vec<D>) -> Side {
         Side {
-            first: filled(digits, Third::Low),
+            first: first_cell(digits),
             level: u8::try_from(digits.len()).unwrap_or(0),
         }
     }

@@ -1,7 +1,7 @@
 // A round of a search: its points, their answers, and its close.
 use super::digits::{Digits, Third, middle_cell, part};
 use super::front::{Ticket, firsts};
-use super::lines::{Answer, Line, Table};
+use super::lines::{Answer, Line, Mark, Rows, Table};
 use super::pieces::Piece;
 use super::still::Still;
 use super::stop::{Cause, Stop};
@@ -93,12 +93,12 @@ impl View {
 
 impl Going {
     // The boxes, if the table is the search's own.
-    fn look(&self, table: &Table<'_>) -> Result<View, Stop> {
+    fn look(&self, table: Rows<'_>) -> Result<View, Stop> {
         let pieces = self.before.own(table)?;
         if table.lines.len() < self.row(self.points) {
             return Err(Stop::Refused(Cause::ForeignTable));
         }
-        let firsts = firsts(table.heap, &pieces, self.before.frame)?;
+        let firsts = firsts(table.heap, &pieces, self.before.frame.end())?;
         let taken = self
             .chosen
             .iter()
@@ -113,16 +113,12 @@ impl Going {
     }
 
     // Whether a point waits.
-    fn waits(&self, table: &Table<'_>, point: usize) -> bool {
-        table
-            .lines
-            .get(self.row(point))
-            .and_then(Line::said)
-            .is_none()
+    fn waits(&self, lines: &[Line], point: usize) -> bool {
+        lines.get(self.row(point)).and_then(Line::said).is_none()
     }
 
     // Writes the cell of a point.
-    pub fn locate(&self, point: usize, table: &Table<'_>, cells: &mut [u32]) -> Result<(), Stop> {
+    pub fn locate(&self, point: usize, table: Rows<'_>, cells: &mut [u32]) -> Result<(), Stop> {
         let view = self.look(table)?;
         let points = view.points(table.heap)?;
         let found = points.get(point).copied().ok_or(Cause::NoSuchPoint)?;
@@ -139,10 +135,10 @@ impl Going {
     }
 
     // The points that wait.
-    pub fn waiting(&self, table: &Table<'_>) -> Result<Vec<usize>, Stop> {
+    pub fn waiting(&self, table: Rows<'_>) -> Result<Vec<usize>, Stop> {
         let _ = self.look(table)?;
         let all = (0..self.points)
-            .filter(|point| self.waits(table, *point))
+            .filter(|point| self.waits(table.lines, *point))
             .collect(table.heap)?;
         Ok(all)
     }
@@ -150,28 +146,28 @@ impl Going {
     // Answers a point.
     pub fn answer(&self, point: usize, answer: Answer, table: &mut Table<'_>) -> Result<(), Stop> {
         let answer = answer.allowed()?;
-        let _ = self.look(table)?;
+        let _ = self.look(table.rows())?;
         if point >= self.points {
             return Err(Stop::Refused(Cause::NoSuchPoint));
         }
-        if !self.waits(table, point) {
+        if !self.waits(table.lines, point) {
             return Err(Stop::Refused(Cause::Answered));
         }
-        self.note(point, answer, table);
+        self.note(point, answer, table.lines);
         Ok(())
     }
 
     // Writes the answer of a point.
-    pub fn note(&self, point: usize, answer: Answer, table: &mut Table<'_>) {
-        if let Some(line) = table.lines.get_mut(self.row(point)) {
-            line.answer = Some(answer);
+    pub fn note(&self, point: usize, answer: Answer, lines: &mut [Line]) {
+        if let Some(line) = lines.get_mut(self.row(point)) {
+            line.mark = Mark::from(Some(answer));
         }
     }
 
     // Closes the round.
     pub fn close(&self, table: &mut Table<'_>) -> Result<Still, Stop> {
-        let View { mut pieces, taken } = self.look(table)?;
-        if (0..self.points).any(|point| self.waits(table, point)) {
+        let View { mut pieces, taken } = self.look(table.rows())?;
+        if (0..self.points).any(|point| self.waits(table.lines, point)) {
             return Err(Stop::Refused(Cause::PointWaits));
         }
         table.cut(&mut pieces, &taken, self.before.boxes)?;

@@ -43,7 +43,7 @@ impl Front {
         self.firsts
             .iter()
             .copied()
-            .filter(|ticket| self.frame.level(ticket.rank) == level)
+            .filter(|ticket| self.level(ticket.rank) == level)
             .min_by_key(|ticket| ticket.answer)
     }
 

@@ -26,11 +26,19 @@ pub struct Side {
     pub level: u8,
 }
 
-// A box and its answer, none where it waits.
+// What stands beside a box. An `Option` of an answer would take twelve bytes in each line, and this takes eight.
+#[derive(Clone, Copy, Debug, PartialEq, Eq)]
+pub enum Mark {
+    Waits,
+    Reading(i32),
+    NotFeasible,
+}
+
+// A box and its mark.
 #[derive(Clone, Copy, Debug, PartialEq, Eq)]
 pub struct Line {
     pub sides: [Side; WIDTH],
-    pub answer: Option<Answer>,
+    pub mark: Mark,
 }
 
 // The caller's table, with the memory for what is worked out from it.
@@ -38,6 +46,13 @@ pub struct Line {
 pub struct Table<'a> {
     pub heap: Global,
     pub lines: &'a mut [Line],
+}
+
+// The same where it is only read.
+#[derive(Clone, Copy)]
+pub struct Rows<'a> {
+    pub heap: Global,
+    pub lines: &'a [Line],
 }
 
 impl Answer {
@@ -64,6 +79,37 @@ impl Answer {
     }
 }
 
+impl From<Option<Answer>> for Mark {
+    fn from(answer: Option<Answer>) -> Mark {
+        match answer {
+            None => Mark::Waits,
+            Some(Answer::Reading(x)) => Mark::Reading(x),
+            Some(Answer::NotFeasible) => Mark::NotFeasible,
+        }
+    }
+}
+
+impl Mark {
+    // The answer, or none where it waits.
+    pub fn answer(self) -> Option<Answer> {
+        match self {
+            Mark::Waits => None,
+            Mark::Reading(x) => Some(Answer::Reading(x)),
+            Mark::NotFeasible => Some(Answer::NotFeasible),
+        }
+    }
+}
+
+impl Table<'_> {
+    // The table, to be read.
+    pub fn rows(&self) -> Rows<'_> {
+        Rows {
+            heap: self.heap,
+            lines: self.lines,
+        }
+    }
+}
+
 impl Side {
     // All cells of a direction.
     pub const WHOLE: Side = Side { first: 0, level: 0 };
@@ -74,13 +120,13 @@ impl Line {
     pub fn whole(answer: Option<Answer>) -> Line {
         Line {
             sides: [Side::WHOLE; WIDTH],
-            answer,
+            mark: Mark::from(answer),
         }
     }
 
     // The answer beside the numbers, or none where it waits or reads so.
     pub fn said(&self) -> Option<Answer> {
-        self.answer.filter(|answer| answer.is_allowed())
+        self.mark.answer().filter(|answer| answer.is_allowed())
     }
 }
 
@@ -89,6 +135,15 @@ impl fmt::Display for Answer {
         match self {
             Answer::Reading(x) => write!(f, "{x}"),
             Answer::NotFeasible => write!(f, "-"),
+        }
+    }
+}
+
+impl fmt::Display for Mark {
+    fn fmt<W: fmt::Write>(&self, f: &mut fmt::Formatter<W>) -> fmt::Result {
+        match self.answer() {
+            Some(answer) => write!(f, "{answer}"),
+            None => write!(f, "waits"),
         }
     }
 }
@@ -102,10 +157,8 @@ impl fmt::Display for Side {
 
 impl fmt::Display for Line {
     fn fmt<W: fmt::Write>(&self, f: &mut fmt::Formatter<W>) -> fmt::Result {
-        match self.answer {
-            Some(answer) => write!(f, "{answer}")?,
-            None => write!(f, "waits")?,
-        }
+        let mark = self.mark;
+        write!(f, "{mark}")?;
         for side in &self.sides {
             write!(f, " {side}")?;
         }

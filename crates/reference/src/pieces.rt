@@ -1,6 +1,5 @@
 // The boxes of a search, and how the lines of a table hold them.
 use super::digits::{Digits, interval};
-use super::frame::Frame;
 use super::lines::{Answer, Line, Side, WIDTH};
 use super::stop::{Cause, Stop};
 use std::alloc::{AllocError, Global};
@@ -14,8 +13,7 @@ pub struct Piece {
 
 impl Piece {
     // The box that a line holds, if it is one of a search.
-    pub(crate) fn read(heap: Global, line: &Line, frame: Frame) -> Result<Piece, Stop> {
-        let n = frame.directions();
+    pub fn read(heap: Global, line: &Line, n: usize, finest: usize) -> Result<Piece, Stop> {
         let answer = line.said().ok_or(Cause::ForeignTable)?;
         let mut sides = Vec::with_capacity(heap, WIDTH)?;
         for side in line.sides {
@@ -26,16 +24,16 @@ impl Piece {
         }
         sides.truncate(n);
         let piece = Piece { sides, answer };
-        if !piece.is_allowed(frame) {
+        if !piece.is_allowed(finest) {
             return Err(Stop::Refused(Cause::ForeignTable));
         }
         Ok(piece)
     }
 
     // Whether its levels are those of a box of a search.
-    fn is_allowed(&self, frame: Frame) -> bool {
+    fn is_allowed(&self, finest: usize) -> bool {
         let greatest = self.sides.iter().map(|side| side.len()).max().unwrap_or(0);
-        greatest <= usize::from(frame.finest) && greatest <= self.level().saturating_add(1)
+        greatest <= finest && greatest <= self.level().saturating_add(1)
     }
 
     // Its level, which is that of its longest sides.
@@ -69,7 +67,7 @@ impl Piece {
 
 impl Line {
     // Writes sides, the whole direction where there is none, and leaves the answer.
-    pub fn write_sides(&mut self, sides: &[Digits]) {
+    pub fn write_sides<D: Copy + Into<u32>>(&mut self, sides: &[Vec<D>]) {
         self.sides = [Side::WHOLE; WIDTH];
         for (place, side) in self.sides.iter_mut().zip(sides) {
             *place = Side::from(side);

@@ -69,7 +69,8 @@ impl Kind {
             (Kind::Cap, [most, rest @ ..]) => Some((Item::Cap(*most), rest)),
             (Kind::Every, rest) => Some((Item::Every, rest)),
             (Kind::Hull, [high, low, rest @ ..]) => {
-                Some((Item::Hull(u16::from_be_bytes([*high, *low])), rest))
+                let share = u16::from(*high).wrapping_mul(256);
+                Some((Item::Hull(share.wrapping_add(u16::from(*low))), rest))
             }
             _ => None,
         }
@@ -103,9 +104,9 @@ impl Due {
     fn answer(self, answer: Answer, table: &mut Table<'_>) -> Result<Due, Stop> {
         let answer = answer.allowed()?;
         match self {
-            Due::Middle(frame) => Ok(Due::Rest(Still::begin(frame, answer, table)?)),
+            Due::Middle(frame) => Ok(Due::Rest(Still::begin(frame, answer, table.lines)?)),
             Due::Point(going, point) => {
-                going.note(point, answer, table);
+                going.note(point, answer, table.lines);
                 let next = point.saturating_add(1);
                 if next >= going.points {
                     return Ok(Due::Rest(going.close(table)?));

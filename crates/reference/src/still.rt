@@ -2,7 +2,7 @@
 use super::frame::Frame;
 use super::front::Front;
 use super::going::Going;
-use super::lines::{Answer, Line, Table};
+use super::lines::{Answer, Line, Rows, Table};
 use super::pieces::Piece;
 use super::policies::Policy;
 use super::stop::{Cause, Stop};
@@ -28,9 +28,9 @@ fn best_of(pieces: &[Piece]) -> Option<(usize, i32)> {
 
 impl Still {
     // Begins a search.
-    pub fn begin(frame: Frame, answer: Answer, table: &mut Table<'_>) -> Result<Still, Cause> {
+    pub fn begin(frame: Frame, answer: Answer, lines: &mut [Line]) -> Result<Still, Cause> {
         let frame = frame.allowed()?;
-        let line = table.lines.first_mut().ok_or(Cause::NoRow)?;
+        let line = lines.first_mut().ok_or(Cause::NoRow)?;
         *line = Line::whole(Some(answer.allowed()?));
         Ok(Still {
             frame,
@@ -40,20 +40,23 @@ impl Still {
     }
 
     // The boxes, if the table is the search's own.
-    pub fn own(&self, table: &Table<'_>) -> Result<Vec<Piece>, Stop> {
+    pub fn own(&self, table: Rows<'_>) -> Result<Vec<Piece>, Stop> {
+        let n = self.frame.directions();
+        let finest = usize::from(self.frame.finest);
         table
             .lines
             .get(..self.boxes)
             .ok_or(Cause::ForeignTable)?
             .iter()
-            .map(|line| Piece::read(table.heap, line, self.frame))
+            .map(|line| Piece::read(table.heap, line, n, finest))
             .try_collect(table.heap)
     }
 
     // Opens a round.
     pub fn open(&self, policy: Policy, table: &mut Table<'_>) -> Result<Going, Stop> {
-        let pieces = self.own(table)?;
-        let front = Front::new(table.heap, &pieces, self.frame)?;
+        let pieces = self.own(table.rows())?;
+        let n = self.frame.directions();
+        let front = Front::new(table.heap, &pieces, n, self.frame.end())?;
         if front.firsts.is_empty() {
             return Err(Stop::Refused(Cause::AllFinished));
         }
@@ -73,7 +76,7 @@ impl Still {
     }
 
     // The row and the reading of the best box, if any has a reading.
-    pub fn best(&self, table: &Table<'_>) -> Result<Option<(usize, i32)>, Stop> {
+    pub fn best(&self, table: Rows<'_>) -> Result<Option<(usize, i32)>, Stop> {
         Ok(best_of(&self.own(table)?))
     }
 }

@@ -1,15 +1,19 @@
 // Why a call refuses, and the number by which each refusal is reported.
 #![tactic(auto)]
 
-ghost use Rattle.std.specs.Prelude.{◌≡◌, Some};
+ghost use Rattle.std.specs.Prelude.{◌≡◌, Some, Decides, nat_eq};
 ghost use Rattle.refusal.specs.Numbers.{number_of};
 ghost use Rattle.refusal.specs.Words.{words_of};
 ghost use Rattle.refusal.specs.declared.Refusal.{Refusal as Cause};
+ghost use Rattle.std.specs.Cmp.Rules.{comparing};
+ghost use Rattle.std.proofs.Common.{rules};
+ghost use Rattle.std.specs.Cmp.{partial_equiv_from_equiv};
+ghost use Rattle.std.specs.Ordering.{on};
 
 use std::fmt;
 
 // One case for each cause. The numbers 14 and 15 are not in use.
-#[derive(Clone, Copy, PartialEq, Eq, Debug)]
+#[derive(Clone, Copy, Eq, Debug)]
 pub enum Refusal {
     // begin: the directions are not 1 to 6
     Directions,
@@ -97,6 +101,20 @@ impl Refusal {
             Refusal::MarkOutOfTurn => "the mark is out of turn",
             Refusal::InputTooLong => "the input is too long",
         }
+    }
+}
+
+// Two causes are the same exactly when their numbers are. A derived `==` would have no clause that says so.
+impl PartialEq for Refusal {
+    ghost eq = { on number_of nat_eq };
+
+    ghost laws = { partial_equiv_from_equiv (Prim.search (comparing, rules)) };
+
+    fn eq(&self, other: &Refusal) -> bool
+        ensures value { result ≡ on number_of nat_eq self.now other.now }
+        ensures same { Decides result (self.now ≡ other.now) }
+    {
+        self.number() == other.number()
     }
 }
 

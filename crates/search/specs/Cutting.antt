@@ -3,8 +3,8 @@ use Rattle.std.specs.Prelude.{◌≡◌, ℕ, ◌+◌, ◌-◌, ◌*◌, ◌/◌
 use Rattle.grid.specs.Grid.{IsInterval}
 use Rattle.grid.specs.declared.interval.Interval.{Interval}
 use Rattle.grid.specs.declared.interval.cut.Thirds.{Thirds}
-use Rattle.order.specs.Answers.{earlier_answer}
-use Rattle.order.specs.Records.{direction_before}
+use Rattle.order.specs.Answers.{Numbered, earlier_answer}
+use Rattle.order.specs.Records.{direction_before, direction_key}
 use Rattle.order.specs.declared.answer.Answer.TheVariants.{Reading}
 use Rattle.table.specs.Boxes.{Long}
 use Rattle.table.specs.Entries.{answer_of}
@@ -36,6 +36,9 @@ abbrev pub with_side : Row → ℕ → Interval → Entry → Row
 with_side row d i e = record { spans = slice_set row.spans d (span_of i); entry = e }
 
 -- long sides go by their directions
+abbrev pub side_key : LongSide → Numbered
+side_key side = direction_key side.direction
+
 abbrev pub side_before : LongSide → LongSide → Bool
 side_before a b = direction_before a.direction b.direction
 

@@ -1,6 +1,7 @@
 // The long sides of a taken box, in the order of cutting.
 ghost use Rattle.std.specs.Prelude.{◌≡◌, ◌+◌, ◌-◌, ◌%◌, ◌<◌, length, take};
-ghost use Rattle.search.specs.Cutting.{Gathered, InCutOrder, Taking, side_before, with_row};
+ghost use Rattle.order.specs.Answers.{Numbered, numbered_before};
+ghost use Rattle.search.specs.Cutting.{Gathered, InCutOrder, Taking, side_key, with_row};
 ghost use Rattle.std.proofs.Common.{rules};
 
 use order::answer::Answer;
@@ -28,18 +29,20 @@ pub(crate) struct TakenBox {
 }
 
 impl Ordered for LongSide {
-    type Key = (Answer, usize);
+    ghost Key = { Numbered };
 
-    ghost key = { λ s. (s.direction.w, s.direction.number) };
+    ghost key = { side_key };
 
-    ghost before = { side_before };
+    ghost before = { numbered_before };
 
-    ghost by_key = { Prim.search rules };
+    ghost irreflexive = { Prim.search rules };
+
+    ghost transitive = { Prim.search rules };
 
     ghost total = { Prim.search rules };
 
-    fn key(&self) -> (Answer, usize) {
-        self.direction.key()
+    fn precedes(&self, other: &LongSide) -> bool {
+        self.direction.precedes(&other.direction)
     }
 }
 

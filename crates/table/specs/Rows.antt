@@ -1,9 +1,7 @@
 -- The boxes that rows hold: their cells, sides and ranks.
-use Rattle.std.specs.Prelude.{Bool, ◌≡◌, ℕ, ◌+◌, ◌<◌, ◌≤◌, List, [], length, replicate, slice_index, slice_index_or}
+use Rattle.std.specs.Prelude.{◌≡◌, ℕ, ◌+◌, ◌<◌, ◌≤◌, List, [], length, replicate, slice_index, slice_index_or}
 use Rattle.grid.specs.Grid.{cells, cells_at, middle_of}
 use Rattle.grid.specs.declared.interval.Interval.{Interval}
-use Rattle.order.specs.Answers.{answer_before}
-use Rattle.table.specs.Entries.{answer_of}
 use Rattle.table.specs.Sums.{sum}
 use Rattle.table.specs.declared.rows.Entry.{Entry}
 use Rattle.table.specs.declared.rows.Entry.TheVariants.{Waiting}
@@ -60,10 +58,6 @@ whole_grid e = record { spans = replicate 6 all_cells; entry = e }
 -- what is read past the end of a table
 abbrev pub no_row : Row
 no_row = record { spans = []; entry = Waiting }
-
--- rows go by their answers
-abbrev pub row_before : Row → Row → Bool
-row_before a b = answer_before (answer_of a.entry) (answer_of b.entry)
 
 -- row j of a table
 abbrev pub row_at : List Row → ℕ → Row

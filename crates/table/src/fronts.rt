@@ -30,11 +30,17 @@ fn readings_of(boxes: &[Row]) -> Option<(i32, i32)>
         .fold(None, |ends, row| widened(ends, row.entry.shown()))
 }
 
-// The answer of the first box of each rank.
+// The answer of the first box of each rank. By the array's `map` the front of a small table took twice as long, and with `from_fn` the proof stays open.
 fn entries_of(firsts: &[Option<Candidate>; RANKS]) -> [Option<Answer>; RANKS]
     ensures { (r : ℕ) → r < 114 → slice_index_or result r None ≡ answer_in (slice_index_or firsts.now r None) }
 {
-    firsts.map(|first| first.map(|held| held.answer))
+    let mut entries = [None; RANKS];
+    for r in 0..RANKS {
+        if let Some(first) = firsts[r] {
+            entries[r] = Some(first.answer);
+        }
+    }
+    entries
 }
 
 impl Shape {

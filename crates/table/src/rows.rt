@@ -1,9 +1,10 @@
 // What a row of the caller's table holds: plain numbers, and any of them.
 ghost use Rattle.std.specs.Prelude.{◌≡◌, MatchOption};
 ghost use Rattle.grid.specs.Grid.{IsInterval};
+ghost use Rattle.order.specs.Answers.{answer_before};
 ghost use Rattle.order.specs.declared.answer.Answer.{Answer as AnswerKey};
 ghost use Rattle.table.specs.Entries.{answer_of, shown_by, waiting};
-ghost use Rattle.table.specs.Rows.{row_before, span_of, whole_grid};
+ghost use Rattle.table.specs.Rows.{span_of, whole_grid};
 ghost use Rattle.std.proofs.Common.{rules};
 
 use grid::interval::Interval;
@@ -95,17 +96,19 @@ impl Row {
 
 // Rows go by their answers; among equal answers `least` takes the lower row.
 impl Ordered for Row {
-    type Key = Answer;
+    ghost Key = { AnswerKey };
 
     ghost key = { λ r. answer_of r.entry };
 
-    ghost before = { row_before };
+    ghost before = { answer_before };
 
-    ghost by_key = { Prim.search rules };
+    ghost irreflexive = { Prim.search rules };
+
+    ghost transitive = { Prim.search rules };
 
     ghost total = { Prim.search rules };
 
-    fn key(&self) -> Answer {
-        self.entry.answer()
+    fn precedes(&self, other: &Row) -> bool {
+        self.entry.answer().is_before(other.entry.answer())
     }
 }

@@ -1,5 +1,6 @@
 // Rows, boxes and fronts of small tables.
 use order::answer::Answer;
+use order::arrange::arrange;
 use refusal::Refusal;
 use std::test::Fail;
 use table::rows::{Entry, Row, Span};
@@ -88,4 +89,17 @@ fn first_boxes_and_front(rt: HostRuntime) -> Result<(), Fail> {
     let front = shape.front_of(&rows);
     assert_eq!(rt; front.readings(), Some((30, 70)));
     Ok(())
+}
+
+#[test]
+fn rows_of_one_answer_in_order(rt: HostRuntime) {
+    let mut rows = [Row::whole(Entry::Answered(Answer::Reading(2))); 3];
+    rows[1].spans[0].level = 1;
+    rows[2].entry = Entry::Answered(Answer::Reading(1));
+    let [early, late, first] = rows;
+    // the first one changes places with the one that stands where it goes, and the others stay
+    arrange(&mut rows);
+    assert_eq!(rt; rows[0], first);
+    assert_eq!(rt; rows[1], late);
+    assert_eq!(rt; rows[2], early);
 }

@@ -43,7 +43,7 @@ impl Tally {
     ) -> Result<Option<Calm>, Halt> {
         let asked = Asked::new(Call::Begin(frame, answer), table);
         let rest = begin(frame.n, frame.finest, table.rows, measured(answer));
-        let still = Still::begin(frame, answer, &mut table.second(self.heap));
+        let still = Still::begin(frame, answer, table.lines);
         let package = Seen::state(rest.as_ref().map_err(|why| *why));
         let reference = Seen::state(still.as_ref().map_err(|cause| *cause));
         self.see(asked, package, reference)?;
@@ -99,7 +99,7 @@ impl Tally {
         let package = busy.round.locate(point, table.rows, &mut cells[..room]);
         let reference = settled(
             busy.going
-                .locate(point, &table.second(self.heap), &mut second[..room]),
+                .locate(point, table.second_rows(self.heap), &mut second[..room]),
         )?;
         let package = Seen::Cells(package.err().map(Why::from), cells);
         let reference = Seen::Cells(reference.err().map(Why::from), second);
@@ -112,7 +112,7 @@ impl Tally {
     pub fn waiting(&mut self, busy: &Busy, table: &mut Pair<'_>) -> Result<(), Halt> {
         let asked = Asked::new(Call::Waiting, table);
         let package = Seen::of(busy.round.waiting(table.rows).map(Seen::Point));
-        let reference = settled(busy.going.waiting(&table.second(self.heap)))?;
+        let reference = settled(busy.going.waiting(table.second_rows(self.heap)))?;
         let reference = Seen::of(reference.map(|all| first_waiting(all, package)));
         self.see(asked, package, reference)?;
         self.tables(asked, table)
@@ -163,7 +163,7 @@ impl Tally {
     pub fn best(&mut self, calm: &Calm, table: &mut Pair<'_>) -> Result<(), Halt> {
         let asked = Asked::new(Call::Best, table);
         let package = Seen::of(calm.rest.best(table.rows).map(Seen::Best));
-        let reference = settled(calm.still.best(&table.second(self.heap)))?;
+        let reference = settled(calm.still.best(table.second_rows(self.heap)))?;
         let reference = Seen::of(reference.map(Seen::Best));
         self.see(asked, package, reference)?;
         self.tables(asked, table)

@@ -1,6 +1,7 @@
--- Each entry is the answer of its first box.
-use Rattle.std.proofs.Common.{None, rules}
+-- No entry is written at first.
+use Rattle.std.proofs.Common.{None, refl, arith}
+use lib.ListN.{get_or-replicate}
 use Rattle.table.proofs.fronts.entries_of.Goals as goal
 
-pub returns : goal.returns
-returns c r h = let one = c.map.ensures.items.at r None None h in search rules
+pub loop-r-init : goal.loop-r-init
+loop-r-init c = (refl, λ q h. absurd (omega arith), λ q _ h. get_or-replicate 114 q None None h)
