@@ -9,6 +9,7 @@ pub const GREATEST_READING: i32 = 1_000_000_000;
 
 // The derived order is the rule: readings by value, and the mark after all of them, where an `Option` has its none first.
 // `is_before` says the same under contract, and is written out: by the derived order a search for the first took half as long again.
+// That both are one order is the law `by_key` of `Keyed for Answer`.
 #[derive(Clone, Copy, PartialEq, Eq, PartialOrd, Ord, Debug)]
 pub enum Answer {
     Reading(i32),

@@ -1,12 +1,12 @@
 // Boxes, directions and ranks, each by an answer and then by the lower number.
-ghost use Rattle.std.specs.Prelude.{◌≡◌, Option as Entry};
+ghost use Rattle.std.specs.Prelude.{◌≡◌, Option as Entry, is_none};
 ghost use Rattle.order.specs.Answers.{Numbered, answer_before, earlier_answer, entry_before, numbered_before};
 ghost use Rattle.order.specs.Records.{candidate_key, direction_key, rank_key};
 ghost use Rattle.order.specs.declared.answer.Answer.{Answer as AnswerKey};
 ghost use Rattle.std.proofs.Common.{rules};
 
 use crate::answer::Answer;
-use crate::ordered::Ordered;
+use crate::ordered::{Keyed, Ordered};
 
 // A box, by its answer and its row.
 #[derive(Clone, Copy)]
@@ -134,5 +134,75 @@ impl Ordered for RankEntry {
     fn precedes(&self, other: &RankEntry) -> bool {
         self.answer
             .is_before_at(self.rank, other.answer, other.rank)
+    }
+}
+
+impl Keyed for Answer {
+    type Key = Answer;
+
+    ghost key = { λ a. a };
+
+    ghost by_key = { Prim.search rules };
+
+    ghost total = { Prim.search rules };
+
+    fn key(&self) -> Answer {
+        *self
+    }
+}
+
+impl Keyed for Option<Answer> {
+    type Key = (bool, Option<Answer>);
+
+    ghost key = { λ e. (is_none e, e) };
+
+    ghost by_key = { Prim.search rules };
+
+    ghost total = { Prim.search rules };
+
+    fn key(&self) -> (bool, Option<Answer>) {
+        (self.is_none(), *self)
+    }
+}
+
+impl Keyed for Candidate {
+    type Key = (Answer, usize);
+
+    ghost key = { λ c. (c.answer, c.row) };
+
+    ghost by_key = { Prim.search rules };
+
+    ghost total = { Prim.search rules };
+
+    fn key(&self) -> (Answer, usize) {
+        (self.answer, self.row)
+    }
+}
+
+impl Keyed for Direction {
+    type Key = (Answer, usize);
+
+    ghost key = { λ d. (d.w, d.number) };
+
+    ghost by_key = { Prim.search rules };
+
+    ghost total = { Prim.search rules };
+
+    fn key(&self) -> (Answer, usize) {
+        (self.w, self.number)
+    }
+}
+
+impl Keyed for RankEntry {
+    type Key = (Answer, usize);
+
+    ghost key = { λ e. (e.answer, e.rank) };
+
+    ghost by_key = { Prim.search rules };
+
+    ghost total = { Prim.search rules };
+
+    fn key(&self) -> (Answer, usize) {
+        (self.answer, self.rank)
     }
 }

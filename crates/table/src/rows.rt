@@ -9,7 +9,7 @@ ghost use Rattle.std.proofs.Common.{rules};
 
 use grid::interval::Interval;
 use order::answer::Answer;
-use order::ordered::Ordered;
+use order::ordered::{Keyed, Ordered};
 
 // How many directions a row has numbers for.
 pub const SIDES: usize = 6;
@@ -110,5 +110,20 @@ impl Ordered for Row {
 
     fn precedes(&self, other: &Row) -> bool {
         self.entry.answer().is_before(other.entry.answer())
+    }
+}
+
+impl Keyed for Row {
+    type Key = Answer;
+
+    ghost key = { λ r. answer_of r.entry };
+
+    ghost by_key = { Prim.search rules };
+
+    ghost total = { Prim.search rules };
+
+    fn key(&self) -> Answer {
+        let entry = self.entry;
+        entry.answer()
     }
 }

@@ -1,8 +1,8 @@
-// The order of answers, the first of several, and records in order.
+// The order of answers, the first of several, records in order, and their keys.
 use order::answer::Answer;
 use order::arrange::arrange;
 use order::least::{first_of, least};
-use order::ordered::Ordered;
+use order::ordered::{Keyed, Ordered};
 use order::records::{Candidate, Direction, RankEntry};
 
 #[test]
@@ -67,4 +67,29 @@ fn directions_in_order(rt: HostRuntime) {
     assert_eq!(rt; directions[2].number, 0);
     assert_eq!(rt; directions[3].number, 1);
     assert_eq!(rt; directions[2].w, Answer::Reading(40));
+}
+
+// Whether a record is before another, by their keys.
+fn is_before<T: Keyed>(record: &T, other: &T) -> bool {
+    record.key() < other.key()
+}
+
+#[test]
+fn keys_of_records(rt: HostRuntime) {
+    let answer = Answer::Reading(-3);
+    let empty: Option<Answer> = None;
+    let near = Candidate { answer, row: 3 };
+    let far = Candidate { answer, row: 4 };
+    let direction = Direction::new(1, answer, Answer::NotFeasible);
+    let entry = RankEntry { answer, rank: 9 };
+    assert_eq!(rt; answer.key(), answer);
+    assert_eq!(rt; Some(answer).key(), (false, Some(answer)));
+    assert_eq!(rt; empty.key(), (true, None));
+    assert_eq!(rt; near.key(), (answer, 3));
+    assert_eq!(rt; direction.key(), (answer, 1));
+    assert_eq!(rt; entry.key(), (answer, 9));
+    assert!(rt; is_before(&answer, &Answer::NotFeasible));
+    assert!(rt; is_before(&Some(Answer::NotFeasible), &empty));
+    assert!(rt; is_before(&near, &far));
+    assert!(rt; !is_before(&far, &near));
 }

@@ -1,6 +1,7 @@
 // Rows, boxes and fronts of small tables.
 use order::answer::Answer;
 use order::arrange::arrange;
+use order::ordered::Keyed;
 use refusal::Refusal;
 use std::test::Fail;
 use table::rows::{Entry, Row, Span};
@@ -102,4 +103,12 @@ fn rows_of_one_answer_in_order(rt: HostRuntime) {
     assert_eq!(rt; rows[0], first);
     assert_eq!(rt; rows[1], late);
     assert_eq!(rt; rows[2], early);
+}
+
+#[test]
+fn rows_go_by_their_answers(rt: HostRuntime) {
+    let [middle, ..] = division();
+    assert_eq!(rt; middle.key(), Answer::Reading(50));
+    let waits = Row::whole(Entry::Waiting);
+    assert_eq!(rt; waits.key(), Answer::NotFeasible);
 }
